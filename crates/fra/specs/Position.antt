@@ -1,0 +1,65 @@
+-- 01, "Positions and rounds": positions, that is, pairs of symbolic configurations. The register count is the length of
+-- the list of partners, or the parameter r.
+use Prim.Native.Nat.{ℕ, zero, suc}
+use mathlib.Core.Bool.{Bool, true, false, not, _&&_, _||_}
+use mathlib.Core.List.{List, [], _∷_}
+use lib.ListN.{length, getD, replicate}
+use lib.Dec.{ltb, eqb}
+use Rattle.fra.specs.Lists.{any, below}
+use Rattle.fra.specs.Registers.{has}
+use Rattle.fra.specs.Model.{setOf}
+use Rattle.fra.specs.Rules.{modelOf}
+use Rattle.fra.specs.declared.Position.{Position}
+use Rattle.fra.specs.declared.Task.{Task}
+use Rattle.fra.specs.declared.Side.{Side}
+use Rattle.fra.specs.declared.Side.the-variants.{Left, Right}
+
+-- a side's state
+abbrev pub stateOf : Position → Side → ℕ
+stateOf p Left = p .left
+stateOf p Right = p .right
+
+-- the register set of a side's state
+abbrev pub filled : Task → Position → Side → ℕ
+filled t p s = setOf (modelOf t s) (stateOf p s)
+
+-- "The empty matching is all zeros."
+abbrev pub unmatched : ℕ → ℕ → ℕ → Position
+unmatched r left right = record { left = left; right = right; partners = replicate r 0 }
+
+-- "Partner 0 means none; otherwise it is the right register with the same number": the partner of left register i
+unfoldable pub rightPartner : List ℕ → ℕ → ℕ
+rightPartner partners zero = 0
+rightPartner partners (suc k) = getD partners k 0
+
+-- the left register, counted from i, whose partner is right register j; 0 for none
+unfoldable pub leftPartner : ℕ → List ℕ → ℕ → ℕ
+leftPartner i [] j = 0
+leftPartner i (x ∷ xs) j = elim (eqb x j) [ true ↦ i | false ↦ leftPartner (suc i) xs j ]
+
+-- the register of the other side with the same number as register i of side s; 0 for none
+unfoldable pub partner : Position → Side → ℕ → ℕ
+partner p Left i = rightPartner (p .partners) i
+partner p Right i = leftPartner 1 (p .partners) i
+
+-- "partners join registers of the two states' sets and no right register is used twice", from left register i on
+unfoldable pub matching : ℕ → ℕ → ℕ → List ℕ → Bool
+matching left right i [] = true
+matching left right i (x ∷ xs) = (eqb x 0 || (has left i && has right x && not (any (eqb x) xs))) && matching left right (suc i) xs
+
+-- "A position is legal if its states exist, partners join registers of the two states' sets and no right register is used
+-- twice", for r registers
+unfoldable pub legal : ℕ → Task → Position → Bool
+legal r t p =
+    ltb (p .left) (t .left .«state_count»)
+    && ltb (p .right) (t .right .«state_count»)
+    && eqb (length (p .partners)) r
+    && matching (filled t p Left) (filled t p Right) 1 (p .partners)
+
+-- "eight bytes, left state first"
+unfoldable pub bytes : Position → List ℕ
+bytes p = p .left ∷ p .right ∷ p .partners
+
+-- "rising by position bytes"
+unfoldable pub before : Position → Position → Bool
+before p q = below (bytes p) (bytes q)

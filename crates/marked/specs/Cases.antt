@@ -1,0 +1,246 @@
+-- 01, "Sample pairs": the marked cases, each a call of the comparer and what it must give; and further cases of the same form
+-- for the mistakes that no marked case shows.
+use Prim.Native.Nat.{ℕ, zero, suc}
+use mathlib.Core.Bool.{Bool, true, false, _&&_}
+use mathlib.Core.List.{List, [], _∷_, _++_, flatMap}
+use lib.ListN.{length, take, replicate}
+use lib.Dec.{eqb}
+use Rattle.outcome.specs.Verdicts.{equality, Values, valuesOf}
+use Rattle.fra.specs.Lists as Lists
+use Rattle.fra.specs.Registers as Registers
+use Rattle.fra.specs.Model as Model
+use Rattle.fra.specs.Position as Position
+use Rattle.fra.specs.Game as Game
+use Rattle.fra.specs.Reach as Reach
+use Rattle.task.specs.TaskFile as TaskFile
+use Rattle.outcome.specs.Bytes as Bytes
+use Rattle.outcome.specs.Certificate as Certificate
+use Rattle.outcome.specs.Compare as Compare
+
+-- a call of the comparer, and the numbers that it must return
+pub record Case : Type 0 where
+  pub file : List ℕ
+  pub table : ℕ
+  pub buffer : ℕ
+  pub expected : Values
+
+abbrev pub equals : ℕ → ℕ → Values
+equals positions length = record { refusal = 0; verdict = 16; positions = positions; rounds = 0; length = length }
+
+abbrev pub differs : ℕ → ℕ → ℕ → Values
+differs positions rounds length =
+    record { refusal = 0; verdict = 17; positions = positions; rounds = rounds; length = length }
+
+abbrev pub refuses : ℕ → Values
+refuses n = record { refusal = n; verdict = 0; positions = 0; rounds = 0; length = 0 }
+
+-- ── Models: end marks 0, start state 0 and the same register set in every state, where not said ──
+
+-- model P
+abbrev pub P : List ℕ
+P =
+    0x01 ∷ 0x01 ∷ 0x02 ∷ 0x00
+    ∷ 0x02 ∷ 0x00 ∷ 0x00 ∷ 0x00
+    ∷ 0x02 ∷ 0x01 ∷ 0x01 ∷ 0x00
+    ∷ 0x03 ∷ 0x00 ∷ 0x00 ∷ 0x01 ∷ 0x01 ∷ 0x01
+    ∷ 0x03 ∷ 0x01 ∷ 0x01 ∷ 0x00 ∷ 0x01 ∷ 0x01 ∷ []
+
+-- model G: P with kind 02 in its first edge
+abbrev pub G : List ℕ
+G =
+    0x01 ∷ 0x01 ∷ 0x02 ∷ 0x00
+    ∷ 0x02 ∷ 0x00 ∷ 0x00 ∷ 0x00
+    ∷ 0x02 ∷ 0x01 ∷ 0x01 ∷ 0x00
+    ∷ 0x03 ∷ 0x00 ∷ 0x00 ∷ 0x02 ∷ 0x01 ∷ 0x01
+    ∷ 0x03 ∷ 0x01 ∷ 0x01 ∷ 0x00 ∷ 0x01 ∷ 0x01 ∷ []
+
+-- P with two registers, using register 2
+abbrev pub P₂ : List ℕ
+P₂ =
+    0x01 ∷ 0x02 ∷ 0x02 ∷ 0x00
+    ∷ 0x02 ∷ 0x00 ∷ 0x00 ∷ 0x00
+    ∷ 0x02 ∷ 0x01 ∷ 0x02 ∷ 0x00
+    ∷ 0x03 ∷ 0x00 ∷ 0x00 ∷ 0x01 ∷ 0x02 ∷ 0x01
+    ∷ 0x03 ∷ 0x01 ∷ 0x01 ∷ 0x00 ∷ 0x02 ∷ 0x01 ∷ []
+
+-- one state that holds register 1, with a known loop
+abbrev pub loop : List ℕ
+loop =
+    0x01 ∷ 0x01 ∷ 0x01 ∷ 0x00
+    ∷ 0x02 ∷ 0x00 ∷ 0x01 ∷ 0x00
+    ∷ 0x03 ∷ 0x00 ∷ 0x00 ∷ 0x00 ∷ 0x01 ∷ 0x00 ∷ []
+
+-- one state with end mark 1 and no edges
+abbrev pub marked-1 : List ℕ
+marked-1 =
+    0x01 ∷ 0x00 ∷ 0x01 ∷ 0x00
+    ∷ 0x02 ∷ 0x00 ∷ 0x00 ∷ 0x01 ∷ []
+
+-- one state with end mark 0 and no edges
+abbrev pub marked-0 : List ℕ
+marked-0 =
+    0x01 ∷ 0x00 ∷ 0x01 ∷ 0x00
+    ∷ 0x02 ∷ 0x00 ∷ 0x00 ∷ 0x00 ∷ []
+
+-- a known edge of a register outside its set
+abbrev pub outside : List ℕ
+outside =
+    0x01 ∷ 0x01 ∷ 0x01 ∷ 0x00
+    ∷ 0x02 ∷ 0x00 ∷ 0x00 ∷ 0x00
+    ∷ 0x03 ∷ 0x00 ∷ 0x00 ∷ 0x00 ∷ 0x01 ∷ 0x00 ∷ []
+
+-- 0-0-1, 1-1-2, 1-2-2: known edges of register 1, which every state holds
+abbrev pub fork-late : List ℕ
+fork-late =
+    0x01 ∷ 0x01 ∷ 0x03 ∷ 0x00
+    ∷ 0x02 ∷ 0x00 ∷ 0x01 ∷ 0x00
+    ∷ 0x02 ∷ 0x01 ∷ 0x01 ∷ 0x00
+    ∷ 0x02 ∷ 0x02 ∷ 0x01 ∷ 0x00
+    ∷ 0x03 ∷ 0x00 ∷ 0x00 ∷ 0x00 ∷ 0x01 ∷ 0x01
+    ∷ 0x03 ∷ 0x01 ∷ 0x01 ∷ 0x00 ∷ 0x01 ∷ 0x02
+    ∷ 0x03 ∷ 0x01 ∷ 0x02 ∷ 0x00 ∷ 0x01 ∷ 0x02 ∷ []
+
+-- 0-0-1, 0-0-2, 1-1-3, 2-2-3: known edges of register 1, which every state holds
+abbrev pub fork-early : List ℕ
+fork-early =
+    0x01 ∷ 0x01 ∷ 0x04 ∷ 0x00
+    ∷ 0x02 ∷ 0x00 ∷ 0x01 ∷ 0x00
+    ∷ 0x02 ∷ 0x01 ∷ 0x01 ∷ 0x00
+    ∷ 0x02 ∷ 0x02 ∷ 0x01 ∷ 0x00
+    ∷ 0x02 ∷ 0x03 ∷ 0x01 ∷ 0x00
+    ∷ 0x03 ∷ 0x00 ∷ 0x00 ∷ 0x00 ∷ 0x01 ∷ 0x01
+    ∷ 0x03 ∷ 0x00 ∷ 0x00 ∷ 0x00 ∷ 0x01 ∷ 0x02
+    ∷ 0x03 ∷ 0x01 ∷ 0x01 ∷ 0x00 ∷ 0x01 ∷ 0x03
+    ∷ 0x03 ∷ 0x02 ∷ 0x02 ∷ 0x00 ∷ 0x01 ∷ 0x03 ∷ []
+
+-- no register held, a locally fresh loop that drops the number
+abbrev pub dropper : List ℕ
+dropper =
+    0x01 ∷ 0x01 ∷ 0x01 ∷ 0x00
+    ∷ 0x02 ∷ 0x00 ∷ 0x00 ∷ 0x00
+    ∷ 0x03 ∷ 0x00 ∷ 0x00 ∷ 0x01 ∷ 0x01 ∷ 0x00 ∷ []
+
+-- register 1 held, a locally fresh loop that writes register 2 and drops it
+abbrev pub holder : List ℕ
+holder =
+    0x01 ∷ 0x02 ∷ 0x01 ∷ 0x00
+    ∷ 0x02 ∷ 0x00 ∷ 0x01 ∷ 0x00
+    ∷ 0x03 ∷ 0x00 ∷ 0x00 ∷ 0x01 ∷ 0x02 ∷ 0x00 ∷ []
+
+-- as holder, and a known loop on register 1
+abbrev pub teller : List ℕ
+teller =
+    0x01 ∷ 0x02 ∷ 0x01 ∷ 0x00
+    ∷ 0x02 ∷ 0x00 ∷ 0x01 ∷ 0x00
+    ∷ 0x03 ∷ 0x00 ∷ 0x00 ∷ 0x00 ∷ 0x01 ∷ 0x00
+    ∷ 0x03 ∷ 0x00 ∷ 0x00 ∷ 0x01 ∷ 0x02 ∷ 0x00 ∷ []
+
+-- registers 1 and 2 held, a locally fresh loop with tag 1 that writes register 1
+abbrev pub swapper : List ℕ
+swapper =
+    0x01 ∷ 0x02 ∷ 0x01 ∷ 0x00
+    ∷ 0x02 ∷ 0x00 ∷ 0x03 ∷ 0x00
+    ∷ 0x03 ∷ 0x00 ∷ 0x01 ∷ 0x01 ∷ 0x01 ∷ 0x00 ∷ []
+
+-- 0-0-1, 1-0-2, known edges of register 1, end mark 1 in state 1
+abbrev pub marked-middle : List ℕ
+marked-middle =
+    0x01 ∷ 0x01 ∷ 0x03 ∷ 0x00
+    ∷ 0x02 ∷ 0x00 ∷ 0x01 ∷ 0x00
+    ∷ 0x02 ∷ 0x01 ∷ 0x01 ∷ 0x01
+    ∷ 0x02 ∷ 0x02 ∷ 0x01 ∷ 0x00
+    ∷ 0x03 ∷ 0x00 ∷ 0x00 ∷ 0x00 ∷ 0x01 ∷ 0x01
+    ∷ 0x03 ∷ 0x01 ∷ 0x00 ∷ 0x00 ∷ 0x01 ∷ 0x02 ∷ []
+
+-- as marked-middle, with end marks 0
+abbrev pub plain-middle : List ℕ
+plain-middle =
+    0x01 ∷ 0x01 ∷ 0x03 ∷ 0x00
+    ∷ 0x02 ∷ 0x00 ∷ 0x01 ∷ 0x00
+    ∷ 0x02 ∷ 0x01 ∷ 0x01 ∷ 0x00
+    ∷ 0x02 ∷ 0x02 ∷ 0x01 ∷ 0x00
+    ∷ 0x03 ∷ 0x00 ∷ 0x00 ∷ 0x00 ∷ 0x01 ∷ 0x01
+    ∷ 0x03 ∷ 0x01 ∷ 0x00 ∷ 0x00 ∷ 0x01 ∷ 0x02 ∷ []
+
+-- ── The cases ──
+
+abbrev pub end : List ℕ
+end = 0x0f ∷ []
+
+-- a call with room to spare: eight entries and five spare bytes, 100 bytes for the certificate
+abbrev pub call : List ℕ → Values → Case
+call file expected = record { file = file; table = 101; buffer = 100; expected = expected }
+
+unfoldable pub markedCases : List Case
+markedCases =
+    -- 1. P, P: EQUAL, 2 positions, 18 bytes
+    call (P ++ P ++ end) (equals 2 18)
+    -- 2. P, G: DIFFER, 2 positions, 1 round
+    ∷ call (P ++ G ++ end) (differs 2 1 16)
+    -- 3. P against P with two registers, using register 2: EQUAL, 2 positions
+    ∷ call (P ++ P₂ ++ end) (equals 2 18)
+    -- 4. One state each, register 1 held, a known loop with tag 0, no pair: DIFFER, 1 position, 1 round
+    ∷ call (loop ++ loop ++ end) (differs 1 1 16)
+    -- 5. As 4 with pair 1, 1: EQUAL, 1 position
+    ∷ call (loop ++ loop ++ (0x04 ∷ 0x01 ∷ 0x01 ∷ end)) (equals 1 9)
+    -- 6. One state each, no edges, end marks 1 and 0: DIFFER, 0 rounds
+    ∷ call (marked-1 ++ marked-0 ++ end) (differs 1 0 16)
+    -- 7. Empty file: 2
+    ∷ call [] (refuses 2)
+    -- 8. A known edge of a register outside its set: 7
+    ∷ call outside (refuses 7)
+    -- 9. Case 1, table of 23 bytes: 11; of 24: EQUAL
+    ∷ record { file = P ++ P ++ end; table = 23; buffer = 100; expected = refuses 11 }
+    ∷ record { file = P ++ P ++ end; table = 24; buffer = 100; expected = equals 2 18 }
+    -- 10. Case 1, certificate buffer of 17 bytes: 12; of 18: EQUAL
+    ∷ record { file = P ++ P ++ end; table = 101; buffer = 17; expected = refuses 12 }
+    ∷ record { file = P ++ P ++ end; table = 101; buffer = 18; expected = equals 2 18 }
+    -- 11. Register 1 held and paired: DIFFER, 4 positions, 2 rounds, 48 bytes
+    ∷ call (fork-late ++ fork-early ++ (0x04 ∷ 0x01 ∷ 0x01 ∷ end)) (differs 4 2 48)
+    ∷ []
+
+unfoldable pub furtherCases : List Case
+furtherCases =
+    -- a number that only the right reader holds: the right side has no known edge to answer with
+    call (dropper ++ holder ++ end) (differs 1 1 16)
+    -- as before, and the right side has one
+    ∷ call (dropper ++ teller ++ end) (equals 1 9)
+    -- both written registers lose their partners: after one round no pair is left, and case 1 has no known reply
+    ∷ call (swapper ++ swapper ++ (0x04 ∷ 0x01 ∷ 0x02 ∷ 0x04 ∷ 0x02 ∷ 0x01 ∷ end)) (differs 2 2 32)
+    -- a known edge of an unpartnered register is answered by a locally fresh one, on the other side than above
+    ∷ call (teller ++ dropper ++ end) (equals 1 9)
+    -- a position with differing end marks leads on all the same
+    ∷ call (marked-middle ++ plain-middle ++ (0x04 ∷ 0x01 ∷ 0x01 ∷ end)) (differs 3 1 32)
+    ∷ []
+
+-- ── What a case is held to ──
+
+unfoldable pub sameValues : Values → Values → Bool
+sameValues v w =
+    eqb (v .refusal) (w .refusal)
+    && eqb (v .verdict) (w .verdict)
+    && eqb (v .positions) (w .positions)
+    && eqb (v .rounds) (w .rounds)
+    && eqb (v .length) (w .length)
+
+-- the outcome of a case; the lent buffers hold other bytes at entry
+unfoldable pub outcome : Case → Compare.Outcome
+unfolding flatMap Lists.any Lists.all Lists.keep Lists.first Lists.count Lists.least Lists.below Lists.equal Registers.has Registers.inside Registers.with Model.setOf Model.markOf Model.edgeOf Model.edgeBytes Position.rightPartner Position.leftPartner Position.partner Position.matching Position.legal Position.bytes Position.before Game.hasCase Game.isAttack Game.cases Game.named Game.attacks Game.answers Game.isReply Game.replies Game.rejoined Game.remaining Game.matched Game.moved Game.after Game.lostAtOnce Game.lostWithin Reach.successors Reach.insert Reach.grown Reach.closed Reach.enough Reach.reached Reach.rank Reach.rounds TaskFile.noModel TaskFile.noTask TaskFile.atStart TaskFile.headerRefusal TaskFile.headed TaskFile.withHeader TaskFile.headerAt TaskFile.stateRefusal TaskFile.withState TaskFile.afterState TaskFile.stateAt TaskFile.edgeOfBody TaskFile.edgeExists TaskFile.keepsRule TaskFile.rises TaskFile.edgeRefusal TaskFile.withEdge TaskFile.edgeAt TaskFile.rising TaskFile.pairRefusal TaskFile.withPair TaskFile.pairAt TaskFile.endAt TaskFile.header TaskFile.state TaskFile.edge TaskFile.pair TaskFile.end TaskFile.recordKind TaskFile.bodyLength TaskFile.step TaskFile.atEnd TaskFile.readRest TaskFile.readTask Bytes.word Bytes.wordAt Bytes.cleared Bytes.thenZeros Bytes.thenRest Certificate.entry Certificate.entries Certificate.keptRecord Certificate.keptPositions Certificate.lossRecord Certificate.wins Certificate.chosen Certificate.attackOf Certificate.attackLeads Certificate.lossStep Certificate.lossWith Certificate.lossOf Certificate.losses Certificate.certificateBy Compare.capacity Compare.decided Compare.refusedLate Compare.judge Compare.compareTask Compare.compareRead Compare.compare
+outcome c = Compare.compare equality (c .file) (replicate (c .table) 170) (replicate (c .buffer) 85)
+
+unfoldable pub met : Case → Bool
+unfolding outcome sameValues
+met c = sameValues (valuesOf (outcome c .answer)) (c .expected)
+
+-- case 2's buffer at exit: 17, the start, side 1, edge 0, case 7, 1 round, and then the buffer as it was
+abbrev pub certificate2 : List ℕ
+certificate2 =
+    0x11 ∷ 0x00 ∷ 0x00 ∷ 0x00 ∷ 0x00 ∷ 0x00 ∷ 0x00 ∷ 0x00 ∷ 0x00 ∷ 0x01 ∷ 0x00 ∷ 0x07 ∷ 0x00 ∷ 0x00 ∷ 0x00 ∷ 0x01
+    ∷ replicate 84 85
+
+-- case 2's table at exit: the start with 1 round; the position after the first edges, never lost; and then zeros
+abbrev pub table2 : List ℕ
+table2 =
+    0x00 ∷ 0x00 ∷ 0x00 ∷ 0x00 ∷ 0x00 ∷ 0x00 ∷ 0x00 ∷ 0x00 ∷ 0x00 ∷ 0x00 ∷ 0x00 ∷ 0x01
+    ∷ 0x01 ∷ 0x01 ∷ 0x01 ∷ 0x00 ∷ 0x00 ∷ 0x00 ∷ 0x00 ∷ 0x00 ∷ 0xff ∷ 0xff ∷ 0xff ∷ 0xff
+    ∷ replicate 77 0

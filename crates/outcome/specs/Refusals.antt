@@ -1,0 +1,82 @@
+-- 01, "Turned back, in checking order", 11 to 14: for each refusal the case that 01 names for it. Nothing here goes by way of
+-- an outcome.
+use Prim.Native.Nat.{ℕ, _<_, _^_}
+use mathlib.Core.Path.{_≡_}
+use mathlib.Core.Logic.{_⊎_, _≢_}
+use mathlib.Core.Bool.{Bool, false}
+use mathlib.Core.List.{List, [], _∷_, _++_, flatMap}
+use lib.ListN.{length}
+use Rattle.fra.specs.Lists.{_∈_, Unique}
+use Rattle.fra.specs.Position.{legal, before}
+use Rattle.fra.specs.Rules.{Rules}
+use Rattle.fra.specs.Reach.{Reached, rounds}
+use Rattle.fra.specs.declared.Position.{Position}
+use Rattle.fra.specs.declared.Task.{Task}
+use Rattle.outcome.specs.Verdicts.{Contest, kindOf}
+use Rattle.outcome.specs.Certificate.{Loss, keptRecord, lossRecord, certificateBy}
+use Rattle.outcome.specs.Compare.{capacity}
+use Rattle.outcome.specs.Conditions.{KeptCondition, LostCondition}
+use Rattle.outcome.specs.Check.{positionOf, keptLength, lossLength}
+
+-- 11: "The positions reached outnumber the table's entries."
+pub record TableTooSmall (g : Rules) (t : Task) (table : List ℕ) : Type 0 where
+  pub positions : List Position
+  pub unique : Unique positions
+  pub all-reached : (p : Position) → p ∈ positions → Reached g t p
+  pub more : capacity table < length positions
+
+-- 12: "The certificate is longer than its buffer."
+abbrev pub CertificateTooLong : Contest → Task → List ℕ → Type 0
+CertificateTooLong c t buffer = length buffer < length (certificateBy c t (rounds (c .rules) t (t .start)))
+
+-- ── 13: "A proposed certificate has an unknown kind, two kinds, a cut body, an illegal position, or does not rise strictly by
+-- position." ──
+
+-- the kinds of a contest's certificates and the bytes of their bodies, for r registers
+pub data Kind (r : ℕ) (c : Contest) : ℕ → ℕ → Type 0 where
+  of-kept : Kind r c (kindOf (c .kept)) (keptLength r)
+  of-lost : Kind r c (kindOf (c .lost)) (lossLength r)
+
+-- whole records of one kind, given by their bodies
+unfoldable pub records : ℕ → List (List ℕ) → List ℕ
+records kind = flatMap (λ body. kind ∷ body)
+
+-- a certificate that begins with whole records of one kind, none or more
+pub record Begins (r : ℕ) (c : Contest) (certificate : List ℕ) (rest : List ℕ) : Type 0 where
+  pub kind : ℕ
+  pub size : ℕ
+  pub known : Kind r c kind size
+  pub bodies : List (List ℕ)
+  pub whole : (body : List ℕ) → body ∈ bodies → length body ≡ size
+  pub begins : certificate ≡ records kind bodies ++ rest
+
+pub data Malformed (r : ℕ) (c : Contest) (t : Task) (certificate : List ℕ) : Type 0 where
+  unknown-kind : {b : ℕ} {rest : List ℕ} → Begins r c certificate (b ∷ rest) → ((size : ℕ) → Kind r c b size → ⊥)
+      → Malformed r c t certificate
+  two-kinds : {b : ℕ} {rest : List ℕ} (s : Begins r c certificate (b ∷ rest)) → s .bodies ≢ [] → b ≢ s .kind
+      → Malformed r c t certificate
+  cut-body : {b size : ℕ} {rest : List ℕ} → Begins r c certificate (b ∷ rest) → Kind r c b size → length rest < size
+      → Malformed r c t certificate
+  illegal : {rest : List ℕ} (s : Begins r c certificate rest) (body : List ℕ) → body ∈ s .bodies
+      → legal r t (positionOf r body) ≡ false
+      → Malformed r c t certificate
+  not-rising : {rest : List ℕ} (s : Begins r c certificate rest) (earlier later : List (List ℕ)) (b₁ b₂ : List ℕ)
+      → s .bodies ≡ earlier ++ b₁ ∷ b₂ ∷ later
+      → before (positionOf r b₁) (positionOf r b₂) ≡ false
+      → Malformed r c t certificate
+
+-- ── 14: "The proposed certificate is well formed and not accepted." ──
+
+-- the bytes of a list that meets the published conditions
+pub data Acceptable (r : ℕ) (c : Contest) (t : Task) (certificate : List ℕ) : Type 0 where
+  as-kept : (l : List Position) → certificate ≡ flatMap (keptRecord (kindOf (c .kept))) l
+      → KeptCondition (c .rules) r t l
+      → Acceptable r c t certificate
+  as-lost : (l : List Loss) → certificate ≡ flatMap (lossRecord (kindOf (c .lost))) l
+      → ((x : Loss) → x ∈ l → x .rounds < 2 ^ 32)
+      → LostCondition (c .rules) t l
+      → Acceptable r c t certificate
+
+pub record NotAccepted (r : ℕ) (c : Contest) (t : Task) (certificate : List ℕ) : Type 0 where
+  pub well-formed : Malformed r c t certificate → ⊥
+  pub unmet : Acceptable r c t certificate → ⊥

@@ -1,11 +1,12 @@
 -- 01, "Positions and rounds": positions, that is, pairs of symbolic configurations. The register count is the length of
 -- the list of partners, or the parameter r.
 use Prim.Native.Nat.{ℕ, zero, suc}
+use mathlib.Core.Path.{_≡_}
 use mathlib.Core.Bool.{Bool, true, false, not, _&&_, _||_}
 use mathlib.Core.List.{List, [], _∷_}
 use lib.ListN.{length, getD, replicate}
 use lib.Dec.{ltb, eqb}
-use Rattle.fra.specs.Lists.{any, below}
+use Rattle.fra.specs.Lists.{_∈_, any, below}
 use Rattle.fra.specs.Registers.{has}
 use Rattle.fra.specs.Model.{setOf}
 use Rattle.fra.specs.Rules.{modelOf}
@@ -60,6 +61,11 @@ legal r t p =
 unfoldable pub bytes : Position → List ℕ
 bytes p = p .left ∷ p .right ∷ p .partners
 
--- "rising by position bytes"
+-- "rising by position bytes": one position is before another
 unfoldable pub before : Position → Position → Bool
 before p q = below (bytes p) (bytes q)
+
+-- a list of positions rises strictly: each is before all that follow it
+abbrev pub Rising : List Position → Type 0
+Rising [] = Unit {0}
+Rising (p ∷ l) = ((q : Position) → q ∈ l → before p q ≡ true) × Rising l

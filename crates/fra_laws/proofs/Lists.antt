@@ -1,0 +1,210 @@
+-- Laws of the functions on lists that the definitions use. Assumes nothing.
+use Prim.Native.Nat.{ℕ, zero, suc, _+_, _≤_, _<_}
+use mathlib.Core.Path.{_≡_, refl, sym, _∙_, ap, subst}
+use mathlib.Core.Logic.{_⊎_, inl, inr, ⊎-elim}
+use mathlib.Core.Bool.{Bool, true, false, _&&_, _||_, false≢true, true≢false}
+use mathlib.Core.List.{List, [], _∷_, _++_, map, flatMap, List·Memᴰ·head, List·Memᴰ·tail, List·Memᴰ·not-nil, List·Memᴰ·cases-cons, List·Memᴰ·append-cases, Memᴰ·append-left, Memᴰ·append-right, Memᴰ·map, Memᴰ·of-map}
+use mathlib.Core.Option.{Option, none, some}
+use native.Mathlib.Omega.{arith}
+use native.Mathlib.Decide.{ℕ-discrete}
+use Rattle.fra.specs.Lists.{_∈_, any, all, keep, first, count, least}
+use Rattle.fra_laws.proofs.Tests.{and-left, and-right, and-intro, and-false, or-cases, or-left, or-right, or-false-left, or-false-right, not-both}
+
+module _ {A : Type 0} where
+  -- ── any, all ──
+
+  -- some element passes a test that passes at some element
+  pub any-witness : (f : A → Bool) (l : List A) → any f l ≡ true → (x : A) × (x ∈ l) × (f x ≡ true)
+  unfolding any
+  any-witness f [] h = absurd (false≢true h)
+  any-witness f (x ∷ xs) h = step (any-witness f xs) (or-cases (f x) (any f xs) h)
+    where
+      step : (any f xs ≡ true → (y : A) × (y ∈ xs) × (f y ≡ true)) → (f x ≡ true) ⊎ (any f xs ≡ true)
+          → (y : A) × (y ∈ x ∷ xs) × (f y ≡ true)
+      step rest (inl e) = (x, List·Memᴰ·head refl, e)
+      step rest (inr e) = let w = rest e in (w .0, List·Memᴰ·tail (w .1), w .2)
+
+  pub any-intro : (f : A → Bool) {x : A} {l : List A} → x ∈ l → f x ≡ true → any f l ≡ true
+  unfolding any
+  any-intro f {x} (List·Memᴰ·head {x = y} {xs = ys} e) h = or-left (f y) (any f ys) (ap f (sym e) ∙ h)
+  any-intro f (List·Memᴰ·tail {x = y} {xs = ys} m) h = or-right (f y) (any f ys) (any-intro f m h)
+
+  -- no element passes a test that passes at none
+  pub any-none : (f : A → Bool) {x : A} {l : List A} → any f l ≡ false → x ∈ l → f x ≡ true → ⊥
+  any-none f {l = l} h m e = not-both (any f l) (any-intro f m e) h
+
+  pub all-at : (f : A → Bool) {x : A} {l : List A} → all f l ≡ true → x ∈ l → f x ≡ true
+  unfolding all
+  all-at f h (List·Memᴰ·head {x = y} {xs = ys} e) = ap f e ∙ and-left (f y) (all f ys) h
+  all-at f h (List·Memᴰ·tail {x = y} {xs = ys} m) = all-at f (and-right (f y) (all f ys) h) m
+
+  pub all-intro : (f : A → Bool) (l : List A) → ((x : A) → x ∈ l → f x ≡ true) → all f l ≡ true
+  unfolding all
+  all-intro f [] h = refl
+  all-intro f (x ∷ xs) h =
+      and-intro (f x) (all f xs) (h x (List·Memᴰ·head refl)) (all-intro f xs (λ y m. h y (List·Memᴰ·tail m)))
+
+  -- some element fails a test that does not pass at all
+  pub all-counterexample : (f : A → Bool) (l : List A) → all f l ≡ false → (x : A) × (x ∈ l) × (f x ≡ false)
+  unfolding all
+  all-counterexample f [] h = absurd (true≢false h)
+  all-counterexample f (x ∷ xs) h = step (all-counterexample f xs) (and-false (f x) (all f xs) h)
+    where
+      step : (all f xs ≡ false → (y : A) × (y ∈ xs) × (f y ≡ false)) → (f x ≡ false) ⊎ (all f xs ≡ false)
+          → (y : A) × (y ∈ x ∷ xs) × (f y ≡ false)
+      step rest (inl e) = (x, List·Memᴰ·head refl, e)
+      step rest (inr e) = let w = rest e in (w .0, List·Memᴰ·tail (w .1), w .2)
+
+  -- ── keep ──
+
+  pub keep-passes : (f : A → Bool) (x : A) (xs : List A) → f x ≡ true → keep f (x ∷ xs) ≡ x ∷ keep f xs
+  unfolding keep
+  keep-passes f x xs e = rw (e, keep)
+
+  pub keep-fails : (f : A → Bool) (x : A) (xs : List A) → f x ≡ false → keep f (x ∷ xs) ≡ keep f xs
+  unfolding keep
+  keep-fails f x xs e = rw (e, keep)
+
+  pub keep-intro : (f : A → Bool) {x : A} {l : List A} → x ∈ l → f x ≡ true → x ∈ keep f l
+  keep-intro f {x} (List·Memᴰ·head {x = y} {xs = ys} e) h =
+      subst (λ (l : List A). x ∈ l) (sym (keep-passes f y ys (ap f (sym e) ∙ h))) (List·Memᴰ·head e)
+  keep-intro f {x} (List·Memᴰ·tail {x = y} {xs = ys} m) h = step (f y) refl (keep-intro f m h)
+    where
+      step : (b : Bool) → f y ≡ b → x ∈ keep f ys → x ∈ keep f (y ∷ ys)
+      step true e r = subst (λ (l : List A). x ∈ l) (sym (keep-passes f y ys e)) (List·Memᴰ·tail r)
+      step false e r = subst (λ (l : List A). x ∈ l) (sym (keep-fails f y ys e)) r
+
+  -- what is kept stood in the list and passes the test
+  pub keep-elim : (f : A → Bool) (x : A) (l : List A) → x ∈ keep f l → (x ∈ l) × (f x ≡ true)
+  unfolding keep
+  keep-elim f x [] m = absurd (List·Memᴰ·not-nil m)
+  keep-elim f x (y ∷ ys) m = step (f y) refl (keep-elim f x ys)
+    where
+      step : (b : Bool) → f y ≡ b → (x ∈ keep f ys → (x ∈ ys) × (f x ≡ true)) → (x ∈ y ∷ ys) × (f x ≡ true)
+      step true e rest =
+          ⊎-elim (λ (d : x ≡ y). (List·Memᴰ·head d, ap f d ∙ e))
+          (λ (n : x ∈ keep f ys). (List·Memᴰ·tail (rest n .0), rest n .1))
+          (List·Memᴰ·cases-cons (subst (λ (l : List A). x ∈ l) (keep-passes f y ys e) m))
+      step false e rest =
+          let n = subst (λ (l : List A). x ∈ l) (keep-fails f y ys e) m in
+          (List·Memᴰ·tail (rest n .0), rest n .1)
+
+  -- ── first ──
+
+  pub first-found : (f : A → Bool) (l : List A) (x : A) → first f l ≡ some x → (x ∈ l) × (f x ≡ true)
+  unfolding first
+  first-found f [] x h = let z : _≡_ {A = ℕ} 0 1 = cc in absurd (omega arith)
+  first-found f (y ∷ ys) x h = step (f y) refl (first-found f ys x)
+    where
+      step : (b : Bool) → f y ≡ b → (first f ys ≡ some x → (x ∈ ys) × (f x ≡ true)) → (x ∈ y ∷ ys) × (f x ≡ true)
+      step true e rest =
+          let d : first f (y ∷ ys) ≡ some y = rw (e, first) in
+          let s : x ≡ y = cc in
+          (List·Memᴰ·head s, ap f s ∙ e)
+      step false e rest =
+          let d : first f (y ∷ ys) ≡ first f ys = rw (e, first) in
+          let r = rest (sym d ∙ h) in
+          (List·Memᴰ·tail (r .0), r .1)
+
+  -- where nothing is found, no element passes
+  pub first-none : (f : A → Bool) (l : List A) → first f l ≡ none → any f l ≡ false
+  unfolding first any
+  first-none f [] h = refl
+  first-none f (y ∷ ys) h = step (f y) refl (first-none f ys)
+    where
+      step : (b : Bool) → f y ≡ b → (first f ys ≡ none → any f ys ≡ false) → any f (y ∷ ys) ≡ false
+      step true e rest =
+          let d : first f (y ∷ ys) ≡ some y = rw (e, first) in
+          let z : _≡_ {A = ℕ} 0 1 = cc in
+          absurd (omega arith)
+      step false e rest =
+          let d : first f (y ∷ ys) ≡ first f ys = rw (e, first) in
+          rw e (rest (sym d ∙ h))
+
+  -- something is found where an element passes
+  pub first-exists : (f : A → Bool) (l : List A) → any f l ≡ true → (x : A) × (first f l ≡ some x)
+  first-exists f l h = step (first f l) refl
+    where
+      step : (o : Option A) → first f l ≡ o → (x : A) × (first f l ≡ some x)
+      step none e = absurd (not-both (any f l) h (first-none f l e))
+      step (some x) e = (x, e)
+
+module _ {A B : Type 0} where
+  pub flatMap-intro : (f : A → List B) {a : A} {l : List A} {b : B} → a ∈ l → b ∈ f a → b ∈ flatMap f l
+  unfolding flatMap
+  flatMap-intro f {b = b} (List·Memᴰ·head {x = x} {xs = xs} e) m =
+      Memᴰ·append-left (flatMap f xs) (subst (λ (y : A). b ∈ f y) e m)
+  flatMap-intro f (List·Memᴰ·tail {x = x} {xs = xs} n) m = Memᴰ·append-right (f x) (flatMap-intro f n m)
+
+  pub flatMap-elim : (f : A → List B) (l : List A) {b : B} → b ∈ flatMap f l → (a : A) × (a ∈ l) × (b ∈ f a)
+  unfolding flatMap
+  flatMap-elim f [] m = absurd (List·Memᴰ·not-nil m)
+  flatMap-elim f (x ∷ xs) {b} m = step (λ (n : b ∈ flatMap f xs). flatMap-elim f xs n) (List·Memᴰ·append-cases (f x) m)
+    where
+      step : (b ∈ flatMap f xs → (a : A) × (a ∈ xs) × (b ∈ f a)) → (b ∈ f x) ⊎ (b ∈ flatMap f xs)
+          → (a : A) × (a ∈ x ∷ xs) × (b ∈ f a)
+      step rest (inl n) = (x, List·Memᴰ·head refl, n)
+      step rest (inr n) = let w = rest n in (w .0, List·Memᴰ·tail (w .1), w .2)
+
+-- ── count ──
+
+pub count-intro : (i n k : ℕ) → i ≤ k → k < i + n → k ∈ count i n
+unfolding count
+count-intro i zero k p q = absurd (omega arith)
+count-intro i (suc n) k p q = step (ℕ-discrete k i) (λ (h : suc i ≤ k). count-intro (suc i) n k h (omega arith))
+  where
+    step : Dec (k ≡ i) → (suc i ≤ k → k ∈ count (suc i) n) → k ∈ count i (suc n)
+    step (yes e) rest = List·Memᴰ·head e
+    step (no d) rest = List·Memᴰ·tail (rest (omega arith))
+
+pub count-elim : (i n k : ℕ) → k ∈ count i n → (i ≤ k) × (k < i + n)
+unfolding count
+count-elim i zero k m = absurd (List·Memᴰ·not-nil m)
+count-elim i (suc n) k m = step (λ (h : k ∈ count (suc i) n). count-elim (suc i) n k h) (List·Memᴰ·cases-cons m)
+  where
+    step : (k ∈ count (suc i) n → (suc i ≤ k) × (k < suc i + n)) → (k ≡ i) ⊎ (k ∈ count (suc i) n)
+        → (i ≤ k) × (k < i + suc n)
+    step rest (inl e) = (omega arith, omega arith)
+    step rest (inr h) = let r = rest h in (omega arith, omega arith)
+
+-- ── least ──
+
+pub least-found : (f : ℕ → Bool) (i n k : ℕ) → least f i n ≡ some k
+    → (f k ≡ true) × (k < i + n) × ((j : ℕ) → i ≤ j → j < k → f j ≡ false)
+unfolding least
+least-found f i zero k h = let z : _≡_ {A = ℕ} 0 1 = cc in absurd (omega arith)
+least-found f i (suc n) k h = step (f i) refl (least-found f (suc i) n k)
+  where
+    step : (b : Bool) → f i ≡ b
+        → (least f (suc i) n ≡ some k → (f k ≡ true) × (k < suc i + n) × ((j : ℕ) → suc i ≤ j → j < k → f j ≡ false))
+        → (f k ≡ true) × (k < i + suc n) × ((j : ℕ) → i ≤ j → j < k → f j ≡ false)
+    step true e rest =
+        let d : least f i (suc n) ≡ some i = rw (e, least) in
+        let s : k ≡ i = cc in
+        (ap f s ∙ e, omega arith, λ j p q. absurd (omega arith))
+    step false e rest =
+        let d : least f i (suc n) ≡ least f (suc i) n = rw (e, least) in
+        let r = rest (sym d ∙ h) in
+        (r .0, omega (arith, r .1), λ j p q. at j p q (ℕ-discrete j i) (r .2))
+      where
+        at : (j : ℕ) → i ≤ j → j < k → Dec (j ≡ i) → ((j : ℕ) → suc i ≤ j → j < k → f j ≡ false) → f j ≡ false
+        at j p q (yes d) r = ap f d ∙ e
+        at j p q (no d) r = r j (omega arith) q
+
+pub least-none : (f : ℕ → Bool) (i n : ℕ) → least f i n ≡ none → (k : ℕ) → i ≤ k → k < i + n → f k ≡ false
+unfolding least
+least-none f i zero h k p q = absurd (omega arith)
+least-none f i (suc n) h k p q = step (f i) refl (λ (e : least f (suc i) n ≡ none) (s : suc i ≤ k). least-none f (suc i) n e k s (omega arith))
+  where
+    step : (b : Bool) → f i ≡ b → (least f (suc i) n ≡ none → suc i ≤ k → f k ≡ false) → f k ≡ false
+    step true e rest =
+        let d : least f i (suc n) ≡ some i = rw (e, least) in
+        let z : _≡_ {A = ℕ} 0 1 = cc in
+        absurd (omega arith)
+    step false e rest =
+        let d : least f i (suc n) ≡ least f (suc i) n = rw (e, least) in
+        at (ℕ-discrete k i) (rest (sym d ∙ h))
+      where
+        at : Dec (k ≡ i) → (suc i ≤ k → f k ≡ false) → f k ≡ false
+        at (yes d) r = ap f d ∙ e
+        at (no d) r = r (omega arith)

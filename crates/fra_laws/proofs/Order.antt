@@ -1,0 +1,125 @@
+-- The order of strings is a strict total order, and so is that of positions by their bytes. Assumes nothing.
+use Prim.Native.Nat.{ℕ, zero, suc, _<_}
+use mathlib.Core.Path.{_≡_, refl, sym, _∙_, ap, ap₂, subst}
+use mathlib.Core.Logic.{_⊎_, inl, inr, ⊎-elim}
+use mathlib.Core.Bool.{Bool, true, false, _&&_, _||_, false≢true, true≢false}
+use mathlib.Core.List.{List, [], _∷_}
+use native.Mathlib.Omega.{arith}
+use lib.Dec.{ltb, eqb}
+use borrow.Author.Tests.{ltb-true, ltb-false, eqb-true, eqb-false, lt-ltb, le-ltb, eq-eqb, ne-eqb}
+use Rattle.fra.specs.Lists.{below, equal}
+use Rattle.fra.specs.Position.{bytes, before}
+use Rattle.fra.specs.declared.Position.{Position}
+use Rattle.fra_laws.proofs.Tests.{and-left, and-right, and-intro, or-cases, or-left, or-right, or-false-left, or-false-right, not-both, passes-or-fails, fails-unless}
+
+-- ── equal ──
+
+pub equal-refl : (l : List ℕ) → equal l l ≡ true
+unfolding equal
+equal-refl [] = refl
+equal-refl (x ∷ l) = and-intro (eqb x x) (equal l l) (eq-eqb x x refl) (equal-refl l)
+
+pub equal-sound : (l m : List ℕ) → equal l m ≡ true → l ≡ m
+unfolding equal
+equal-sound [] [] h = refl
+equal-sound [] (y ∷ m) h = absurd (false≢true h)
+equal-sound (x ∷ l) [] h = absurd (false≢true h)
+equal-sound (x ∷ l) (y ∷ m) h =
+    ap₂ (λ (a : ℕ) (b : List ℕ). a ∷ b) (eqb-true x y (and-left (eqb x y) (equal l m) h))
+    (equal-sound l m (and-right (eqb x y) (equal l m) h))
+
+-- ── below ──
+
+pub below-irreflexive : (l : List ℕ) → below l l ≡ false
+unfolding below
+below-irreflexive [] = refl
+below-irreflexive (x ∷ l) = rw (le-ltb x x (omega arith), eq-eqb x x refl) (below-irreflexive l)
+
+pub below-transitive : (l m n : List ℕ) → below l m ≡ true → below m n ≡ true → below l n ≡ true
+unfolding below
+below-transitive [] [] n p q = absurd (false≢true p)
+below-transitive [] (y ∷ m) [] p q = absurd (false≢true q)
+below-transitive [] (y ∷ m) (z ∷ n) p q = refl
+below-transitive (x ∷ l) [] n p q = absurd (false≢true p)
+below-transitive (x ∷ l) (y ∷ m) [] p q = absurd (false≢true q)
+below-transitive (x ∷ l) (y ∷ m) (z ∷ n) p q =
+    step (or-cases (ltb x y) (eqb x y && below l m) p) (or-cases (ltb y z) (eqb y z && below m n) q) (below-transitive l m n)
+  where
+    step : (ltb x y ≡ true) ⊎ ((eqb x y && below l m) ≡ true) → (ltb y z ≡ true) ⊎ ((eqb y z && below m n) ≡ true)
+        → (below l m ≡ true → below m n ≡ true → below l n ≡ true)
+        → (ltb x z || (eqb x z && below l n)) ≡ true
+    step (inl a) (inl b) rest =
+        let d = ltb-true x y a in
+        let e = ltb-true y z b in
+        or-left (ltb x z) (eqb x z && below l n) (lt-ltb x z (omega arith))
+    step (inl a) (inr b) rest =
+        let d = ltb-true x y a in
+        let e = eqb-true y z (and-left (eqb y z) (below m n) b) in
+        or-left (ltb x z) (eqb x z && below l n) (lt-ltb x z (omega arith))
+    step (inr a) (inl b) rest =
+        let d = eqb-true x y (and-left (eqb x y) (below l m) a) in
+        let e = ltb-true y z b in
+        or-left (ltb x z) (eqb x z && below l n) (lt-ltb x z (omega arith))
+    step (inr a) (inr b) rest =
+        let d = eqb-true x y (and-left (eqb x y) (below l m) a) in
+        let e = eqb-true y z (and-left (eqb y z) (below m n) b) in
+        or-right (ltb x z) (eqb x z && below l n)
+        (and-intro (eqb x z) (below l n) (eq-eqb x z (d ∙ e))
+        (rest (and-right (eqb x y) (below l m) a) (and-right (eqb y z) (below m n) b)))
+
+pub below-asymmetric : (l m : List ℕ) → below l m ≡ true → below m l ≡ false
+below-asymmetric l m p =
+    fails-unless (below m l) (λ q. not-both (below l l) (below-transitive l m l p q) (below-irreflexive l))
+
+-- two strings neither of which is below the other are the same
+pub below-total : (l m : List ℕ) → below l m ≡ false → below m l ≡ false → l ≡ m
+unfolding below
+below-total [] [] p q = refl
+below-total [] (y ∷ m) p q = absurd (true≢false p)
+below-total (x ∷ l) [] p q = absurd (true≢false q)
+below-total (x ∷ l) (y ∷ m) p q =
+    ap₂ (λ (a : ℕ) (b : List ℕ). a ∷ b) same (below-total l m (rest l m x y same p) (rest m l y x (sym same) q))
+  where
+    same : x ≡ y
+    same =
+        let a = ltb-false x y (or-false-left (ltb x y) (eqb x y && below l m) p) in
+        let b = ltb-false y x (or-false-left (ltb y x) (eqb y x && below m l) q) in
+        omega arith
+
+    rest : (l m : List ℕ) (x y : ℕ) → x ≡ y → (ltb x y || (eqb x y && below l m)) ≡ false → below l m ≡ false
+    rest l m x y e h =
+        fails-unless (below l m)
+        (λ b.
+        not-both (eqb x y && below l m) (and-intro (eqb x y) (below l m) (eq-eqb x y e) b)
+        (or-false-right (ltb x y) (eqb x y && below l m) h))
+
+-- ── positions ──
+
+pub bytes-injective : (p q : Position) → bytes p ≡ bytes q → p ≡ q
+unfolding bytes
+bytes-injective p q e = λ i. record { left = a i; right = b i; partners = c i }
+  where
+    a : p .left ≡ q .left
+    a = cc
+
+    b : p .right ≡ q .right
+    b = cc
+
+    c : p .partners ≡ q .partners
+    c = cc
+
+pub before-irreflexive : (p : Position) → before p p ≡ false
+unfolding before
+before-irreflexive p = below-irreflexive (bytes p)
+
+pub before-transitive : (p q r : Position) → before p q ≡ true → before q r ≡ true → before p r ≡ true
+unfolding before
+before-transitive p q r = below-transitive (bytes p) (bytes q) (bytes r)
+
+pub before-asymmetric : (p q : Position) → before p q ≡ true → before q p ≡ false
+unfolding before
+before-asymmetric p q = below-asymmetric (bytes p) (bytes q)
+
+pub before-total : (p q : Position) → before p q ≡ false → before q p ≡ false → p ≡ q
+unfolding before
+before-total p q a b = bytes-injective p q (below-total (bytes p) (bytes q) a b)

@@ -1,0 +1,1 @@
+// Laws of the definitions in fra: theorems in proofs/, nothing to run.

@@ -3,7 +3,8 @@
 use Prim.Native.Nat.{ℕ, zero, suc}
 use mathlib.Core.Bool.{Bool, true, false, _&&_}
 use mathlib.Core.List.{List, [], _∷_, _++_, flatMap}
-use lib.ListN.{length, take, replicate}
+use mathlib.Core.Option.{Option, none, some}
+use lib.ListN.{replicate}
 use lib.Dec.{eqb}
 use Rattle.outcome.specs.Verdicts.{equality, Values, valuesOf}
 use Rattle.fra.specs.Lists as Lists
@@ -17,12 +18,19 @@ use Rattle.outcome.specs.Bytes as Bytes
 use Rattle.outcome.specs.Certificate as Certificate
 use Rattle.outcome.specs.Compare as Compare
 
--- a call of the comparer, and the numbers that it must return
+-- what the table and the certificate buffer hold after a call
+pub record Buffers : Type 0 where
+  pub table : List ℕ
+  pub certificate : List ℕ
+
+-- a call of the comparer with buffers of these lengths, the numbers that it must return and, where stated, the bytes that it
+-- must leave
 pub record Case : Type 0 where
   pub file : List ℕ
   pub table : ℕ
   pub buffer : ℕ
   pub expected : Values
+  pub left-behind : Option Buffers
 
 abbrev pub equals : ℕ → ℕ → Values
 equals positions length = record { refusal = 0; verdict = 16; positions = positions; rounds = 0; length = length }
@@ -169,14 +177,55 @@ end = 0x0f ∷ []
 
 -- a call with room to spare: eight entries and five spare bytes, 100 bytes for the certificate
 abbrev pub call : List ℕ → Values → Case
-call file expected = record { file = file; table = 101; buffer = 100; expected = expected }
+call file expected = record { file = file; table = 101; buffer = 100; expected = expected; left-behind = none }
+
+abbrev pub lending : ℕ → ℕ → List ℕ → Values → Case
+lending table buffer file expected =
+    record { file = file; table = table; buffer = buffer; expected = expected; left-behind = none }
+
+abbrev pub leaving : List ℕ → List ℕ → List ℕ → Values → Case
+leaving table certificate file expected =
+    record {
+      file = file;
+      table = 101;
+      buffer = 100;
+      expected = expected;
+      left-behind = some (record { table = table; certificate = certificate });
+    }
+
+-- case 2: 17, the start, side 1, edge 0, case 7, 1 round; and then the buffer as it was
+abbrev pub certificate-2 : List ℕ
+certificate-2 =
+    0x11 ∷ 0x00 ∷ 0x00 ∷ 0x00 ∷ 0x00 ∷ 0x00 ∷ 0x00 ∷ 0x00 ∷ 0x00 ∷ 0x01 ∷ 0x00 ∷ 0x07 ∷ 0x00 ∷ 0x00 ∷ 0x00 ∷ 0x01
+    ∷ replicate 84 85
+
+-- case 2: the start with 1 round; the position after the first edges, never lost; and then zeros
+abbrev pub table-2 : List ℕ
+table-2 =
+    0x00 ∷ 0x00 ∷ 0x00 ∷ 0x00 ∷ 0x00 ∷ 0x00 ∷ 0x00 ∷ 0x00 ∷ 0x00 ∷ 0x00 ∷ 0x00 ∷ 0x01
+    ∷ 0x01 ∷ 0x01 ∷ 0x01 ∷ 0x00 ∷ 0x00 ∷ 0x00 ∷ 0x00 ∷ 0x00 ∷ 0xff ∷ 0xff ∷ 0xff ∷ 0xff
+    ∷ replicate 77 0
+
+-- two rewritten registers: the position after a round, in which only the two registers written are partners, is lost in 1
+-- round by side 1, edge 0, case 2; the start in 2 by side 1, edge 0, case 7
+abbrev pub table-rewritten : List ℕ
+table-rewritten =
+    0x00 ∷ 0x00 ∷ 0x01 ∷ 0x00 ∷ 0x00 ∷ 0x00 ∷ 0x00 ∷ 0x00 ∷ 0x00 ∷ 0x00 ∷ 0x00 ∷ 0x01
+    ∷ 0x00 ∷ 0x00 ∷ 0x02 ∷ 0x01 ∷ 0x00 ∷ 0x00 ∷ 0x00 ∷ 0x00 ∷ 0x00 ∷ 0x00 ∷ 0x00 ∷ 0x02
+    ∷ replicate 77 0
+
+abbrev pub certificate-rewritten : List ℕ
+certificate-rewritten =
+    0x11 ∷ 0x00 ∷ 0x00 ∷ 0x01 ∷ 0x00 ∷ 0x00 ∷ 0x00 ∷ 0x00 ∷ 0x00 ∷ 0x01 ∷ 0x00 ∷ 0x02 ∷ 0x00 ∷ 0x00 ∷ 0x00 ∷ 0x01
+    ∷ 0x11 ∷ 0x00 ∷ 0x00 ∷ 0x02 ∷ 0x01 ∷ 0x00 ∷ 0x00 ∷ 0x00 ∷ 0x00 ∷ 0x01 ∷ 0x00 ∷ 0x07 ∷ 0x00 ∷ 0x00 ∷ 0x00 ∷ 0x02
+    ∷ replicate 68 85
 
 unfoldable pub markedCases : List Case
 markedCases =
     -- 1. P, P: EQUAL, 2 positions, 18 bytes
     call (P ++ P ++ end) (equals 2 18)
     -- 2. P, G: DIFFER, 2 positions, 1 round
-    ∷ call (P ++ G ++ end) (differs 2 1 16)
+    ∷ leaving table-2 certificate-2 (P ++ G ++ end) (differs 2 1 16)
     -- 3. P against P with two registers, using register 2: EQUAL, 2 positions
     ∷ call (P ++ P₂ ++ end) (equals 2 18)
     -- 4. One state each, register 1 held, a known loop with tag 0, no pair: DIFFER, 1 position, 1 round
@@ -190,11 +239,11 @@ markedCases =
     -- 8. A known edge of a register outside its set: 7
     ∷ call outside (refuses 7)
     -- 9. Case 1, table of 23 bytes: 11; of 24: EQUAL
-    ∷ record { file = P ++ P ++ end; table = 23; buffer = 100; expected = refuses 11 }
-    ∷ record { file = P ++ P ++ end; table = 24; buffer = 100; expected = equals 2 18 }
+    ∷ lending 23 100 (P ++ P ++ end) (refuses 11)
+    ∷ lending 24 100 (P ++ P ++ end) (equals 2 18)
     -- 10. Case 1, certificate buffer of 17 bytes: 12; of 18: EQUAL
-    ∷ record { file = P ++ P ++ end; table = 101; buffer = 17; expected = refuses 12 }
-    ∷ record { file = P ++ P ++ end; table = 101; buffer = 18; expected = equals 2 18 }
+    ∷ lending 101 17 (P ++ P ++ end) (refuses 12)
+    ∷ lending 101 18 (P ++ P ++ end) (equals 2 18)
     -- 11. Register 1 held and paired: DIFFER, 4 positions, 2 rounds, 48 bytes
     ∷ call (fork-late ++ fork-early ++ (0x04 ∷ 0x01 ∷ 0x01 ∷ end)) (differs 4 2 48)
     ∷ []
@@ -206,7 +255,9 @@ furtherCases =
     -- as before, and the right side has one
     ∷ call (dropper ++ teller ++ end) (equals 1 9)
     -- both written registers lose their partners: after one round no pair is left, and case 1 has no known reply
-    ∷ call (swapper ++ swapper ++ (0x04 ∷ 0x01 ∷ 0x02 ∷ 0x04 ∷ 0x02 ∷ 0x01 ∷ end)) (differs 2 2 32)
+    ∷ leaving table-rewritten certificate-rewritten
+    (swapper ++ swapper ++ (0x04 ∷ 0x01 ∷ 0x02 ∷ 0x04 ∷ 0x02 ∷ 0x01 ∷ end))
+    (differs 2 2 32)
     -- a known edge of an unpartnered register is answered by a locally fresh one, on the other side than above
     ∷ call (teller ++ dropper ++ end) (equals 1 9)
     -- a position with differing end marks leads on all the same
@@ -223,24 +274,17 @@ sameValues v w =
     && eqb (v .rounds) (w .rounds)
     && eqb (v .length) (w .length)
 
+unfoldable pub sameBuffers : Compare.Outcome → Option Buffers → Bool
+sameBuffers o none = true
+sameBuffers o (some b) = Lists.equal (o .table) (b .table) && Lists.equal (o .certificate) (b .certificate)
+
 -- the outcome of a case; the lent buffers hold other bytes at entry
 unfoldable pub outcome : Case → Compare.Outcome
 unfolding flatMap Lists.any Lists.all Lists.keep Lists.first Lists.count Lists.least Lists.below Lists.equal Registers.has Registers.inside Registers.with Model.setOf Model.markOf Model.edgeOf Model.edgeBytes Position.rightPartner Position.leftPartner Position.partner Position.matching Position.legal Position.bytes Position.before Game.hasCase Game.isAttack Game.cases Game.named Game.attacks Game.answers Game.isReply Game.replies Game.rejoined Game.remaining Game.matched Game.moved Game.after Game.lostAtOnce Game.lostWithin Reach.successors Reach.insert Reach.grown Reach.closed Reach.enough Reach.reached Reach.rank Reach.rounds TaskFile.noModel TaskFile.noTask TaskFile.atStart TaskFile.headerRefusal TaskFile.headed TaskFile.withHeader TaskFile.headerAt TaskFile.stateRefusal TaskFile.withState TaskFile.afterState TaskFile.stateAt TaskFile.edgeOfBody TaskFile.edgeExists TaskFile.keepsRule TaskFile.rises TaskFile.edgeRefusal TaskFile.withEdge TaskFile.edgeAt TaskFile.rising TaskFile.pairRefusal TaskFile.withPair TaskFile.pairAt TaskFile.endAt TaskFile.header TaskFile.state TaskFile.edge TaskFile.pair TaskFile.end TaskFile.recordKind TaskFile.bodyLength TaskFile.step TaskFile.atEnd TaskFile.readRest TaskFile.readTask Bytes.word Bytes.wordAt Bytes.cleared Bytes.thenZeros Bytes.thenRest Certificate.entry Certificate.entries Certificate.keptRecord Certificate.keptPositions Certificate.lossRecord Certificate.wins Certificate.chosen Certificate.attackOf Certificate.attackLeads Certificate.lossStep Certificate.lossWith Certificate.lossOf Certificate.losses Certificate.certificateBy Compare.capacity Compare.decided Compare.refusedLate Compare.judge Compare.compareTask Compare.compareRead Compare.compare
 outcome c = Compare.compare equality (c .file) (replicate (c .table) 170) (replicate (c .buffer) 85)
 
 unfoldable pub met : Case → Bool
-unfolding outcome sameValues
-met c = sameValues (valuesOf (outcome c .answer)) (c .expected)
-
--- case 2's buffer at exit: 17, the start, side 1, edge 0, case 7, 1 round, and then the buffer as it was
-abbrev pub certificate2 : List ℕ
-certificate2 =
-    0x11 ∷ 0x00 ∷ 0x00 ∷ 0x00 ∷ 0x00 ∷ 0x00 ∷ 0x00 ∷ 0x00 ∷ 0x00 ∷ 0x01 ∷ 0x00 ∷ 0x07 ∷ 0x00 ∷ 0x00 ∷ 0x00 ∷ 0x01
-    ∷ replicate 84 85
-
--- case 2's table at exit: the start with 1 round; the position after the first edges, never lost; and then zeros
-abbrev pub table2 : List ℕ
-table2 =
-    0x00 ∷ 0x00 ∷ 0x00 ∷ 0x00 ∷ 0x00 ∷ 0x00 ∷ 0x00 ∷ 0x00 ∷ 0x00 ∷ 0x00 ∷ 0x00 ∷ 0x01
-    ∷ 0x01 ∷ 0x01 ∷ 0x01 ∷ 0x00 ∷ 0x00 ∷ 0x00 ∷ 0x00 ∷ 0x00 ∷ 0xff ∷ 0xff ∷ 0xff ∷ 0xff
-    ∷ replicate 77 0
+unfolding outcome sameValues sameBuffers
+met c =
+    let o = outcome c in
+    sameValues (valuesOf (o .answer)) (c .expected) && sameBuffers o (c .left-behind)

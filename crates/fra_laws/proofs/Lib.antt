@@ -3,3 +3,4 @@ pub mod Lists
 pub mod Order
 pub mod Lost
 pub mod Rounds
+pub mod Bisimulation

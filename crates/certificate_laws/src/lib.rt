@@ -1,1 +1,0 @@
-// Laws of the definitions in outcome that speak of certificates: theorems in proofs/, nothing to run.

@@ -1,0 +1,1 @@
+// Laws of the outcomes: theorems in proofs/, nothing to run.

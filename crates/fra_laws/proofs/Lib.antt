@@ -1,6 +1,12 @@
 pub mod Tests
 pub mod Lists
+pub mod Lengths
 pub mod Order
+pub mod Closure
+pub mod Registers
+pub mod Legal
+pub mod Count
+pub mod Reached
 pub mod Lost
 pub mod Rounds
 pub mod Bisimulation

@@ -1,0 +1,136 @@
+-- What it means that a position is legal, and that rounds lead from legal positions to legal ones, for any register count
+-- and any rules. Assumes nothing.
+use Prim.Native.Nat.{ℕ, _≤_, _<_}
+use mathlib.Core.Path.{_≡_, subst}
+use mathlib.Core.Bool.{true}
+use mathlib.Core.List.{_++_, map, Memᴰ·of-map}
+use lib.ListN.{length}
+use borrow.Author.Tests.{ltb-true, lt-ltb, eqb-true, eq-eqb}
+use Rattle.fra.specs.Lists.{_∈_, count}
+use Rattle.fra.specs.Registers.{has}
+use Rattle.fra.specs.Model.{setOf, registerOf}
+use Rattle.fra.specs.Rules.{Rules, other, leftOf, rightOf, modelOf}
+use Rattle.fra.specs.Position.{stateOf, filled, partner, rightPartner, leftPartner, legal}
+use Rattle.fra.specs.Game.{attackEdge, replyEdge, isAttack, named, attacks, isReply, replies, moved, after}
+use Rattle.fra.specs.Reach.{successors}
+use Rattle.fra.specs.Valid.{ValidModel, Valid}
+use Rattle.fra.specs.declared.Edge.{Edge}
+use Rattle.fra.specs.declared.Position.{Position}
+use Rattle.fra.specs.declared.Task.{Task}
+use Rattle.fra.specs.declared.Side.{Side}
+use Rattle.fra.specs.declared.Side.the-variants.{Left, Right}
+use Rattle.fra.specs.declared.Attack.{Attack}
+use Rattle.fra_laws.proofs.Tests.{and-left, and-right}
+use Rattle.fra_laws.proofs.Lists.{keep-elim, flatMap-elim}
+use Rattle.fra_laws.proofs.Registers.{Matching, matching-facts, matching-intro, right-of-left, left-of-right, matched-length, matched-matching}
+
+-- ── Legal positions ──
+
+-- "its states exist, partners join registers of the two states' sets and no right register is used twice"
+pub record Legal (r : ℕ) (t : Task) (p : Position) : Type 0 where
+  pub exists : (s : Side) → stateOf p s < modelOf t s .«state_count»
+  pub long : length (p .partners) ≡ r
+  pub matches : Matching (filled t p Left) (filled t p Right) (p .partners)
+
+pub legal-facts : (r : ℕ) (t : Task) (p : Position) → legal r t p ≡ true → Legal r t p
+unfolding legal
+legal-facts r t p h =
+    record {
+      exists = exists;
+      long = eqb-true (length (p .partners)) r (search (and-left, and-right));
+      matches = matching-facts (filled t p Left) (filled t p Right) (p .partners) (search (and-left, and-right));
+    }
+  where
+    exists : (s : Side) → stateOf p s < modelOf t s .«state_count»
+    exists Left = ltb-true (p .left) (t .left .«state_count») (search (and-left, and-right))
+    exists Right = ltb-true (p .right) (t .right .«state_count») (search (and-left, and-right))
+
+pub legal-intro : (r : ℕ) (t : Task) (p : Position) → Legal r t p → legal r t p ≡ true
+unfolding legal
+legal-intro r t p l =
+    rw (
+      lt-ltb (p .left) (t .left .«state_count») (l .exists Left),
+      lt-ltb (p .right) (t .right .«state_count») (l .exists Right),
+      eq-eqb (length (p .partners)) r (l .long),
+    )
+    (matching-intro (filled t p Left) (filled t p Right) (p .partners) (l .matches))
+
+-- partners are mutual
+pub partner-mutual : {r : ℕ} {t : Task} {p : Position} → Legal r t p → (s : Side) (i j : ℕ) → 1 ≤ j → partner p s i ≡ j
+    → partner p (other s) j ≡ i
+unfolding partner
+partner-mutual {p = p} l Left i j h e =
+    subst (λ k. leftPartner 1 (p .partners) k ≡ i) e (left-of-right (l .matches) i (rw e h))
+partner-mutual {p = p} l Right i j h e =
+    subst (λ k. rightPartner (p .partners) k ≡ i) e (right-of-left (p .partners) i (rw e h))
+
+-- a register with a partner is filled, and so is its partner
+pub partner-filled : {r : ℕ} {t : Task} {p : Position} → Legal r t p → (s : Side) (i : ℕ) → 1 ≤ i → 1 ≤ partner p s i
+    → (has (filled t p s) i ≡ true) × (has (filled t p (other s)) (partner p s i) ≡ true)
+unfolding partner
+partner-filled l Left i a h = (l .matches .left-has i h, l .matches .right-has i h)
+partner-filled {p = p} l Right i a h =
+    let e = right-of-left (p .partners) i h in
+    let j : ℕ = leftPartner 1 (p .partners) i in
+    (rw e at (l .matches .right-has j (rw e a)), l .matches .left-has j (rw e a))
+
+-- ── Rounds keep positions legal ──
+
+pub attack-edge-exists : (g : Rules) (t : Task) (p : Position) (a : Attack) → a ∈ attacks g t p
+    → a .edge < modelOf t (a .side) .«edge_count»
+unfolding attacks isAttack
+attack-edge-exists g t p a m =
+    let w = keep-elim (isAttack g t p) a (named (length (p .partners)) t Left ++ named (length (p .partners)) t Right) m .1 in
+    ltb-true (a .edge) (modelOf t (a .side) .«edge_count») (search (and-left, and-right))
+
+pub reply-edge-exists : (t : Task) (p : Position) (a : Attack) (k : ℕ) → k ∈ replies t p a
+    → k < modelOf t (other (a .side)) .«edge_count»
+unfolding replies isReply
+reply-edge-exists t p a k m =
+    let w = keep-elim (isReply t p a) k (count 0 (modelOf t (other (a .side)) .«edge_count»)) m .1 in
+    ltb-true k (modelOf t (other (a .side)) .«edge_count») (search (and-left, and-right))
+
+-- a left and a right edge into states that exist
+pub moved-legal : {r : ℕ} {t : Task} {p : Position} → Legal r t p → (l e : Edge) → l .to < t .left .«state_count»
+    → e .to < t .right .«state_count» → Legal r t (moved t p l e)
+unfolding moved
+moved-legal {t = t} {p = p} h l e a b =
+    record {
+      exists = exists;
+      long = rw matched-length (h .long);
+      matches =
+          matched-matching (h .matches) (setOf (t .left) (l .to)) (setOf (t .right) (e .to)) (registerOf (l .kind))
+          (registerOf (e .kind));
+    }
+  where
+    exists : (s : Side) → stateOf (moved t p l e) s < modelOf t s .«state_count»
+    exists Left = a
+    exists Right = b
+
+module _ {r : ℕ} {t : Task} (valid : Valid r t) where
+  pub valid-side : (s : Side) → ValidModel r (modelOf t s)
+  valid-side Left = valid .left
+  valid-side Right = valid .right
+
+  -- an attack and a reply lead from a legal position to a legal one
+  pub after-legal : (g : Rules) (p : Position) (a : Attack) (k : ℕ) → legal r t p ≡ true → a ∈ attacks g t p
+      → k ∈ replies t p a → legal r t (after t p a k) ≡ true
+  unfolding after
+  after-legal g p a k h m n =
+      legal-intro r t (after t p a k)
+      (step (a .side) (attackEdge t a) (replyEdge t a k)
+      (valid-side (a .side) .edges (a .edge) (attack-edge-exists g t p a m) .to)
+      (valid-side (other (a .side)) .edges k (reply-edge-exists t p a k n) .to))
+    where
+      step : (s : Side) (own others : Edge) → own .to < modelOf t s .«state_count»
+          → others .to < modelOf t (other s) .«state_count»
+          → Legal r t (moved t p (leftOf s own others) (rightOf s own others))
+      step Left own others b c = moved-legal (legal-facts r t p h) own others b c
+      step Right own others b c = moved-legal (legal-facts r t p h) others own c b
+
+  pub successors-legal : (g : Rules) (p q : Position) → legal r t p ≡ true → q ∈ successors g t p → legal r t q ≡ true
+  unfolding successors
+  successors-legal g p q h m =
+      let v = flatMap-elim (λ a. map (after t p a) (replies t p a)) (attacks g t p) m in
+      let w = Memᴰ·of-map (after t p (v .0)) (replies t p (v .0)) (v .2) in
+      rw (w .2) at (after-legal g p (v .0) (w .0) h (v .1) (w .1))

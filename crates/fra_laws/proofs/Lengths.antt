@@ -1,0 +1,73 @@
+-- Counting in lists: lengths, lists without duplicates, and the pigeonhole principle. Assumes nothing.
+use Prim.Native.Nat.{ℕ, zero, suc, _*_, _≤_}
+use mathlib.Core.Path.{_≡_, refl, sym, _∙_, ap}
+use mathlib.Core.Logic.{_⊎_, inl, inr, ⊎-elim}
+use mathlib.Core.List.{List, [], _∷_, map, flatMap, List·Memᴰ·head, List·Memᴰ·tail, List·Memᴰ·not-nil, List·Memᴰ·cases-cons, Memᴰ·cast, Memᴰ·map, Memᴰ·of-map}
+use native.Mathlib.Omega.{arith}
+use lib.ListN.{length, length-append, length-map}
+use Rattle.fra.specs.Lists.{_∈_, Unique, count}
+
+-- ── Lengths ──
+
+pub count-length : (i n : ℕ) → length (count i n) ≡ n
+unfolding count
+count-length i zero = refl
+count-length i (suc n) = ap suc (count-length (suc i) n)
+
+module _ {A B : Type 0} where
+  pub flatMap-length : (f : A → List B) (l : List A) (n : ℕ) → ((a : A) → a ∈ l → length (f a) ≡ n)
+      → length (flatMap f l) ≡ length l * n
+  unfolding flatMap
+  flatMap-length f [] n h = omega arith
+  flatMap-length f (x ∷ xs) n h =
+      let a = h x (List·Memᴰ·head refl) in
+      let b = flatMap-length f xs n (λ y m. h y (List·Memᴰ·tail m)) in
+      rw length-append (omega arith)
+
+-- ── Picking an element ──
+
+module _ {A : Type 0} where
+  -- each element of a list, with the list of the others
+  abbrev pub picks : List A → List (A × List A)
+  picks [] = []
+  picks (x ∷ xs) = (x, xs) ∷ map (λ v. (v .0, x ∷ v .1)) (picks xs)
+
+  pub picks-length : (l : List A) → length (picks l) ≡ length l
+  picks-length [] = refl
+  picks-length (x ∷ xs) = rw length-map (ap suc (picks-length xs))
+
+  pub picks-rest : (l : List A) (w : A × List A) → w ∈ picks l → suc (length (w .1)) ≡ length l
+  picks-rest [] w m = absurd (List·Memᴰ·not-nil m)
+  picks-rest (x ∷ xs) w m = step (picks-rest xs) (List·Memᴰ·cases-cons m)
+    where
+      step : ((v : A × List A) → v ∈ picks xs → suc (length (v .1)) ≡ length xs)
+          → (w ≡ (x, xs)) ⊎ (w ∈ map (λ v. (v .0, x ∷ v .1)) (picks xs)) → suc (length (w .1)) ≡ suc (length xs)
+      step rest (inl e) = rw e
+      step rest (inr n) =
+          let v = Memᴰ·of-map (λ v. (v .0, x ∷ v .1)) (picks xs) n in
+          rw (← (v .2)) (ap suc (rest (v .0) (v .1)))
+
+  -- an element can be picked, and all others are left
+  pub picks-intro : {x : A} {l : List A} → x ∈ l
+      → (rest : List A) × ((x, rest) ∈ picks l) × ((y : A) → y ∈ l → (y ≡ x → ⊥) → y ∈ rest)
+  picks-intro (List·Memᴰ·head {x = z} {xs = xs} e) = (
+    xs,
+    List·Memᴰ·head (λ i. (e i, xs)),
+    λ y n d. ⊎-elim (λ s. absurd (d (s ∙ sym e))) (λ k. k) (List·Memᴰ·cases-cons n),
+  )
+  picks-intro (List·Memᴰ·tail {x = z} {xs = xs} m) =
+      let w = picks-intro m in (
+        z ∷ w .0,
+        List·Memᴰ·tail (Memᴰ·map (λ v. (v .0, z ∷ v .1)) (w .1)),
+        λ y n d. ⊎-elim (λ s. List·Memᴰ·head s) (λ k. List·Memᴰ·tail (w .2 y k d)) (List·Memᴰ·cases-cons n),
+      )
+
+  -- ── The pigeonhole principle ──
+
+  pub unique-length : (l m : List A) → Unique l → ((x : A) → x ∈ l → x ∈ m) → length l ≤ length m
+  unique-length [] m u h = omega arith
+  unique-length (x ∷ xs) m u h =
+      let p = picks-intro (h x (List·Memᴰ·head refl)) in
+      let e = picks-rest m (x, p .0) (p .1) in
+      let r = unique-length xs (p .0) (u .1) (λ y n. p .2 y (h y (List·Memᴰ·tail n)) (λ d. u .0 (Memᴰ·cast (sym d) n))) in
+      omega arith

@@ -1,0 +1,84 @@
+-- The list of positions reached holds exactly the positions that attacks and replies lead to from the start of a valid task;
+-- they are legal, and there are no more of them than 01 says. Assumes nothing.
+use Prim.Native.Nat.{ℕ, _*_, _≤_}
+use mathlib.Core.Path.{_≡_}
+use mathlib.Core.Logic.{_↔_}
+use mathlib.Core.Bool.{true}
+use mathlib.Core.List.{List, [], _∷_, map, Memᴰ·map}
+use native.Mathlib.Nat.{le-trans, mul-le-mul-left}
+use lib.ListN.{length}
+use Rattle.fra.specs.Lists.{_∈_, Unique}
+use Rattle.fra.specs.Rules.{Rules}
+use Rattle.fra.specs.Position.{Rising, legal}
+use Rattle.fra.specs.Game.{attacks, replies, after}
+use Rattle.fra.specs.Reach.{begin, successors, Reached, closed, enough, reached}
+use Rattle.fra.specs.Valid.{Valid}
+use Rattle.fra.specs.declared.Position.{Position}
+use Rattle.fra.specs.declared.Task.{Task}
+use Rattle.fra.specs.declared.Attack.{Attack}
+use Rattle.fra_laws.proofs.Lists.{flatMap-intro}
+use Rattle.fra_laws.proofs.Lengths.{unique-length}
+use Rattle.fra_laws.proofs.Closure.{Computes, closed-computes, closure-keeps, rising-unique}
+use Rattle.fra_laws.proofs.Legal.{legal-facts, successors-legal}
+use Rattle.fra_laws.proofs.Count.{injections, injections-power, legal-count}
+
+-- an attack and its reply lead to a successor
+pub successors-intro : (g : Rules) (t : Task) (p : Position) (a : Attack) (k : ℕ) → a ∈ attacks g t p → k ∈ replies t p a
+    → after t p a k ∈ successors g t p
+unfolding successors
+successors-intro g t p a k m n = flatMap-intro (λ a. map (after t p a) (replies t p a)) m (Memᴰ·map (after t p a) n)
+
+module _ {r : ℕ} {t : Task} (valid : Valid r t) where
+  -- the fuel is no less than the number of legal positions
+  legal-enough : (l : List Position) → Unique l → ((p : Position) → p ∈ l → legal r t p ≡ true) → length l ≤ enough t
+  unfolding enough
+  legal-enough l u h =
+      rw (legal-facts r t (t .start) (valid .start-legal) .long)
+      (le-trans (legal-count valid l u h)
+      (mul-le-mul-left (t .left .«state_count» * t .right .«state_count») (injections-power r r)))
+
+  -- so it suffices for every step that keeps positions legal
+  pub enough-computes : (step : Position → List Position)
+      → ((p q : Position) → legal r t p ≡ true → q ∈ step p → legal r t q ≡ true)
+      → Computes step (t .start) (closed step (enough t) (t .start ∷ []))
+  enough-computes step kept =
+      closed-computes step (t .start) (λ p. legal r t p ≡ true) (enough t) (valid .start-legal) kept
+      (λ l rises. legal-enough l (rising-unique l rises))
+
+  module _ (g : Rules) where
+    reached-computes : Computes (successors g t) (t .start) (reached g t)
+    unfolding reached
+    reached-computes = enough-computes (successors g t) (successors-legal valid g)
+
+    -- ── The positions reached ──
+
+    pub reached-exactly : (p : Position) → p ∈ reached g t ↔ Reached g t p
+    reached-exactly p = (reached-computes .sound p, reached-computes .complete p)
+
+    pub reached-rising : Rising (reached g t)
+    reached-rising = reached-computes .rising
+
+    pub reached-unique : Unique (reached g t)
+    reached-unique = rising-unique (reached g t) reached-rising
+
+    pub reached-start : t .start ∈ reached g t
+    reached-start = reached-exactly (t .start) .1 begin
+
+    pub reached-successor : (p q : Position) → p ∈ reached g t → q ∈ successors g t p → q ∈ reached g t
+    reached-successor = reached-computes .within
+
+    pub reached-after : (p : Position) (a : Attack) (k : ℕ) → p ∈ reached g t → a ∈ attacks g t p → k ∈ replies t p a
+        → after t p a k ∈ reached g t
+    reached-after p a k m n o = reached-successor p (after t p a k) m (successors-intro g t p a k n o)
+
+    pub reached-legal : (p : Position) → p ∈ reached g t → legal r t p ≡ true
+    reached-legal p m =
+        closure-keeps (λ p. legal r t p ≡ true) (valid .start-legal) (successors-legal valid g) (reached-exactly p .0 m)
+
+    -- no list without duplicates of positions reached is longer
+    pub reached-longest : (l : List Position) → Unique l → ((p : Position) → p ∈ l → Reached g t p)
+        → length l ≤ length (reached g t)
+    reached-longest l u h = unique-length l (reached g t) u (λ p m. reached-exactly p .1 (h p m))
+
+    pub reached-count : length (reached g t) ≤ t .left .«state_count» * t .right .«state_count» * injections r r
+    reached-count = legal-count valid (reached g t) reached-unique reached-legal

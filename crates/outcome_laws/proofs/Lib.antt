@@ -1,3 +1,4 @@
 pub mod Attacks
 pub mod Bodies
 pub mod Conditions
+pub mod Written

@@ -2,3 +2,4 @@ pub mod Attacks
 pub mod Bodies
 pub mod Conditions
 pub mod Written
+pub mod Compare

@@ -1,0 +1,163 @@
+-- The outcome of a comparison, case by case: 11, 12 or a verdict, and what each says. Assumes nothing.
+use Prim.Native.Nat.{ℕ, zero, suc, _≤_, _<_}
+use mathlib.Core.Path.{_≡_, refl, sym, _∙_, ap, subst}
+use mathlib.Core.Logic.{_⊎_, inl, inr, _↔_}
+use mathlib.Core.Bool.{Bool, true, false}
+use mathlib.Core.List.{List}
+use mathlib.Core.Option.{Option, none, some}
+use native.Mathlib.Omega.{arith}
+use lib.ListN.{length}
+use lib.Dec.{ltb}
+use borrow.Author.Tests.{ltb-true, ltb-false}
+use Rattle.fra.specs.Rules.{Rules}
+use Rattle.fra.specs.Reach.{reached, rounds}
+use Rattle.fra.specs.Valid.{Valid}
+use Rattle.fra.specs.declared.Task.{Task}
+use Rattle.fra_laws.proofs.Reached.{reached-exactly, reached-unique, reached-longest}
+use Rattle.outcome.specs.Bytes.{cleared, thenZeros, thenRest}
+use Rattle.outcome.specs.Verdicts.{Contest}
+use Rattle.outcome.specs.Certificate.{entries, certificateBy}
+use Rattle.outcome.specs.Compare.{Outcome, capacity, decided, refusedLate, judge, compareTask}
+use Rattle.outcome.specs.declared.Comparison.{Comparison}
+use Rattle.outcome.specs.declared.Comparison.the-variants.{Decided, Refused}
+use Rattle.outcome.specs.declared.Verdict.{Verdict}
+use Rattle.outcome.specs.Refusals.{TableTooSmall, CertificateTooLong}
+
+module _ (c : Contest) (t : Task) (table buffer : List ℕ) where
+  -- the start's rounds, and the certificate
+  abbrev start : Option ℕ
+  start = rounds (c .rules) t (t .start)
+
+  abbrev written : List ℕ
+  written = certificateBy c t start
+
+  abbrev found : Outcome
+  found =
+      record {
+        answer = decided c (length (reached (c .rules) t)) start (length written);
+        table = thenZeros (entries (c .rules) t) table;
+        certificate = thenRest written buffer;
+      }
+
+  pub data Compared : Outcome → Type 0 where
+    too-small : capacity table < length (reached (c .rules) t) → Compared (refusedLate 11 table buffer)
+    too-long : length (reached (c .rules) t) ≤ capacity table → length buffer < length written
+        → Compared (refusedLate 12 table buffer)
+    verdict : length (reached (c .rules) t) ≤ capacity table → length written ≤ length buffer → Compared found
+
+  pub compared : Compared (compareTask c t table buffer)
+  unfolding compareTask judge
+  compared = by-table (ltb (capacity table) (length (reached (c .rules) t))) refl
+    where
+      by-buffer : length (reached (c .rules) t) ≤ capacity table → (b : Bool) → ltb (length buffer) (length written) ≡ b
+          → Compared (judge c t table buffer)
+      by-buffer h true e = rw (e, judge) (too-long h (ltb-true (length buffer) (length written) e))
+      by-buffer h false e = rw (e, judge) (verdict h (ltb-false (length buffer) (length written) e))
+
+      by-table : (b : Bool) → ltb (capacity table) (length (reached (c .rules) t)) ≡ b
+          → Compared (compareTask c t table buffer)
+      by-table true e = rw (e, compareTask) (too-small (ltb-true (capacity table) (length (reached (c .rules) t)) e))
+      by-table false e =
+          rw (e, compareTask)
+          (by-buffer (ltb-false (capacity table) (length (reached (c .rules) t)) e) (ltb (length buffer) (length written)) refl)
+
+  -- ── What a verdict says ──
+
+  -- the numbers of a verdict, what it says of the start, and what the buffers hold
+  pub record Says (v : Verdict) (positions n size : ℕ) : Type 0 where
+    pub count : positions ≡ length (reached (c .rules) t)
+    pub bytes : size ≡ length written
+    pub start : ((v ≡ c .kept) × (start ≡ none) × (n ≡ 0)) ⊎ (v ≡ c .lost) × (start ≡ some n)
+    pub outcome : compareTask c t table buffer ≡ found
+
+  decided-says : (v : Verdict) (positions n size : ℕ) (o : Option ℕ) → start ≡ o
+      → decided c (length (reached (c .rules) t)) o (length written) ≡ Decided v positions n size
+      → compareTask c t table buffer ≡ found
+      → Says v positions n size
+  unfolding decided
+  decided-says v positions n size none e d f =
+      record {
+        count = cc;
+        bytes = cc;
+        start = let a : v ≡ c .kept = cc in let b : n ≡ 0 = cc in inl (a, e, b);
+        outcome = f;
+      }
+  decided-says v positions n size (some k) e d f =
+      record {
+        count = cc;
+        bytes = cc;
+        start = let a : v ≡ c .lost = cc in let b : k ≡ n = cc in inr (a, e ∙ ap {B = Option ℕ} some b);
+        outcome = f;
+      }
+
+  pub verdict-says : (v : Verdict) (positions n size : ℕ)
+      → compareTask c t table buffer .answer ≡ Decided v positions n size
+      → Says v positions n size
+  unfolding refusedLate
+  verdict-says v positions n size = by compared refl
+    where
+      by : {o : Outcome} → Compared o → compareTask c t table buffer ≡ o → o .answer ≡ Decided v positions n size
+          → Says v positions n size
+      by (too-small h) f e = let z : _≡_ {A = ℕ} 0 1 = cc in absurd (omega arith)
+      by (too-long h l) f e = let z : _≡_ {A = ℕ} 0 1 = cc in absurd (omega arith)
+      by (verdict h l) f e = decided-says v positions n size start refl e f
+
+  -- ── Refusals 11 and 12, each in its case ──
+
+  -- a verdict is no refusal
+  decided-not-refused : (positions length n : ℕ) (o : Option ℕ) → decided c positions o length ≡ Refused n → ⊥
+  unfolding decided
+  decided-not-refused positions length n none e = let z : _≡_ {A = ℕ} 0 1 = cc in omega arith
+  decided-not-refused positions length n (some k) e = let z : _≡_ {A = ℕ} 0 1 = cc in omega arith
+
+  module _ {r : ℕ} (valid : Valid r t) where
+    pub too-small-exactly : (capacity table < length (reached (c .rules) t)) ↔ TableTooSmall (c .rules) t table
+    too-small-exactly = (
+      λ h.
+          record {
+            positions = reached (c .rules) t;
+            unique = reached-unique valid (c .rules);
+            all-reached = λ p. reached-exactly valid (c .rules) p .0;
+            more = h;
+          },
+      λ h.
+          let b = reached-longest valid (c .rules) (h .positions) (h .unique) (h .all-reached) in
+          omega (arith, h .more),
+    )
+
+    -- the cases of 11 and 12
+    abbrev pub Late : ℕ → Type 0
+    Late n =
+        ((n ≡ 11) × TableTooSmall (c .rules) t table)
+        ⊎ (n ≡ 12) × (TableTooSmall (c .rules) t table → ⊥) × CertificateTooLong c t buffer
+
+    pub refused-exactly : (n : ℕ) → (compareTask c t table buffer .answer ≡ Refused n) ↔ Late n
+    unfolding refusedLate
+    refused-exactly n = (to compared, from compared)
+      where
+        to : {o : Outcome} → Compared o → o .answer ≡ Refused n → Late n
+        to (too-small h) e = let d : n ≡ 11 = cc in inl (d, too-small-exactly .0 h)
+        to (too-long h l) e =
+            let d : n ≡ 12 = cc in
+            inr (d, λ small. let s = too-small-exactly .1 small in omega arith, l)
+        to (verdict h l) e = absurd (decided-not-refused (length (reached (c .rules) t)) (length written) n start e)
+
+        from : {o : Outcome} → Compared o → Late n → o .answer ≡ Refused n
+        from (too-small h) (inl (d, small)) = ap (λ (k : ℕ). Refused k) (sym d)
+        from (too-small h) (inr (d, fits, long)) = absurd (fits (too-small-exactly .0 h))
+        from (too-long h l) (inl (d, small)) = let s = too-small-exactly .1 small in absurd (omega arith)
+        from (too-long h l) (inr (d, fits, long)) = ap (λ (k : ℕ). Refused k) (sym d)
+        from (verdict h l) (inl (d, small)) = let s = too-small-exactly .1 small in absurd (omega arith)
+        from (verdict h l) (inr (d, fits, long)) = absurd (omega arith)
+
+    -- a comparison that is not refused gives a verdict
+    pub decided-otherwise : ((n : ℕ) → Late n → ⊥)
+        → (v : Verdict) × (positions : ℕ) × (n : ℕ) × (size : ℕ)
+        × (compareTask c t table buffer .answer ≡ Decided v positions n size)
+    decided-otherwise open-case = by (compareTask c t table buffer .answer) refl
+      where
+        by : (a : Comparison) → compareTask c t table buffer .answer ≡ a
+            → (v : Verdict) × (positions : ℕ) × (n : ℕ) × (size : ℕ)
+            × (compareTask c t table buffer .answer ≡ Decided v positions n size)
+        by (Decided v positions n size) e = (v, positions, n, size, e)
+        by (Refused n) e = absurd (open-case n (refused-exactly n .0 e))

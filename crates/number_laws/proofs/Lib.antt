@@ -1,0 +1,10 @@
+pub mod Tests
+pub mod Lists
+pub mod Partners
+pub mod Moves
+pub mod Over
+pub mod Choices
+pub mod Replies
+pub mod Rounds
+pub mod Openings
+pub mod Agreement

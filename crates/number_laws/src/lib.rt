@@ -1,0 +1,1 @@
+// The game with actual numbers and the symbolic game agree: theorems in proofs/, nothing to run.

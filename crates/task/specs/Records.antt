@@ -99,6 +99,15 @@ edgesRead (edge from tag kind i to ∷ l) = suc (edgesRead l)
 edgesRead (pair a b ∷ l) = edgesRead l
 edgesRead (end ∷ l) = edgesRead l
 
+-- the latest model's last edge as a five-byte string; the empty string if it has none
+unfoldable pub lastEdge : List Record → List ℕ
+lastEdge [] = []
+lastEdge (header r s q ∷ l) = []
+lastEdge (state n set mark ∷ l) = lastEdge l
+lastEdge (edge from tag kind i to ∷ l) = from ∷ tag ∷ kind ∷ i ∷ to ∷ []
+lastEdge (pair a b ∷ l) = lastEdge l
+lastEdge (end ∷ l) = lastEdge l
+
 -- the register set of state q of the latest model
 unfoldable pub setIn : List Record → ℕ → ℕ
 setIn [] q = 0
@@ -189,20 +198,11 @@ KindFault l (edge from tag kind i to) = RegisterFault (setIn l from) (setIn l to
 KindFault l (pair a b) = ⊥
 KindFault l end = ⊥
 
--- "An edge is not above the one before it in its model."
+-- "An edge is not above the one before it in its model." Where there is none, the empty string is below every edge.
 unfoldable pub OrderFault : List Record → Record → Type 0
 OrderFault l (header r s q) = ⊥
 OrderFault l (state n set mark) = ⊥
-OrderFault l (edge from tag kind i to) = NotAbove l
-  where
-    NotAbove : List Record → Type 0
-    NotAbove [] = ⊥
-    NotAbove (header r s q ∷ l′) = ⊥
-    NotAbove (state n set mark ∷ l′) = ⊥
-    NotAbove (edge from′ tag′ kind′ i′ to′ ∷ l′) =
-        below (from′ ∷ tag′ ∷ kind′ ∷ i′ ∷ to′ ∷ []) (from ∷ tag ∷ kind ∷ i ∷ to ∷ []) ≡ false
-    NotAbove (pair a b ∷ l′) = ⊥
-    NotAbove (end ∷ l′) = ⊥
+OrderFault l (edge from tag kind i to) = below (lastEdge l) (from ∷ tag ∷ kind ∷ i ∷ to ∷ []) ≡ false
 OrderFault l (pair a b) = ⊥
 OrderFault l end = ⊥
 

@@ -1,0 +1,1 @@
+// What the product promises: theorems in proofs/Promises.antt, nothing to run.

@@ -1,0 +1,363 @@
+-- The check of a record refuses it by the lowest rule that it breaks. Assumes nothing.
+use Prim.Native.Nat.{ℕ, zero, suc, _+_, _-_, _^_, _≤_, _<_}
+use mathlib.Core.Path.{_≡_, refl, sym, _∙_, ap, subst}
+use mathlib.Core.Logic.{_⊎_, inl, inr, ⊎-elim}
+use mathlib.Core.Bool.{Bool, true, false, not, cond, _&&_, _||_}
+use mathlib.Core.List.{List, [], _∷_}
+use native.Mathlib.Omega.{arith}
+use native.Mathlib.Decide.{ℕ-discrete, decLt}
+use lib.ListN.{length, getD, drop, length-drop, List·getD-eq-default}
+use lib.Seq.{getD-drop}
+use lib.Dec.{ltb, leb, eqb}
+use Rattle.fra.specs.Lists.{_∈_, any, below}
+use Rattle.fra.specs.Registers.{has, inside, with}
+use Rattle.fra.specs.Model.{setOf}
+use Rattle.fra.specs.Valid.{RegisterRule}
+use Rattle.fra.specs.Position.{rightPartner}
+use Rattle.fra.specs.declared.Model.{Model}
+use Rattle.fra.specs.declared.Task.{Task}
+use Rattle.task.specs.TaskFile.{maxRegisters, maxStates, tagCount, maxEdges, headerRefusal, stateRefusal, kindOf, edgeExists, keepsRule, rises, edgeRefusal, rising, pairRefusal}
+use borrow.Author.Tests.{ltb-true, ltb-false, lt-ltb, eq-eqb, leb-true, leb-false, eqb-true, eqb-false, not-true, not-false}
+use Rattle.task_laws.proofs.Tests.{some-of-three, some-of-four, not-all-of-six}
+use Rattle.task_laws.proofs.Sets.{has-positive, has-below, has-above, inside-false}
+use Rattle.task_laws.proofs.Arrays.{any-at, any-index}
+use Rattle.task_laws.proofs.Checks.{HeaderFits, header-fits, StateFits, state-fits, EdgeExists, edge-exists, PairFits, pair-fits}
+use Rattle.task_laws.proofs.Models.{Whole, rule-kept}
+use Rattle.task_laws.proofs.Ties.{Written, Paired}
+use Rattle.fra_laws.proofs.Tests.{and-false, not-both, passes-or-fails}
+use Rattle.task.specs.Records.{Record, header, state, edge, pair, end, Allowed, statesRead, registers, states, setIn, edgesRead, lastEdge, earlier, start, startSet, Rule, place, header-rule, state-rule, existence, register-rule, edge-order, edge-limit, pair-rule, number, HeaderFault, StateFault, Nonexistence, RegisterFault, KindFault, OrderFault, LimitFault, PairFault, Breaks}
+
+-- ── The lowest rule that is broken ──
+
+-- the record breaks no rule of a number below n
+abbrev Below : ℕ → List Record → Record → Type 0
+Below n l x = (rule : Rule) → number rule < n → Breaks rule l x → ⊥
+
+-- a refusal's number, 0 for none, is right for a record
+pub data Judged (l : List Record) (x : Record) (n : ℕ) : Type 0 where
+  obeys : n ≡ 0 → ((rule : Rule) → Breaks rule l x → ⊥) → Judged l x n
+  breaks : (rule : Rule) → n ≡ number rule → Breaks rule l x → Below (number rule) l x → Judged l x n
+
+-- the rule of a number
+ruleOf : ℕ → Rule
+ruleOf zero = place
+ruleOf (suc zero) = header-rule
+ruleOf (suc (suc zero)) = state-rule
+ruleOf (suc (suc (suc zero))) = existence
+ruleOf (suc (suc (suc (suc zero)))) = register-rule
+ruleOf (suc (suc (suc (suc (suc zero))))) = edge-order
+ruleOf (suc (suc (suc (suc (suc (suc zero)))))) = edge-limit
+ruleOf (suc (suc (suc (suc (suc (suc (suc n))))))) = pair-rule
+
+ruleOf-number : (rule : Rule) → ruleOf (number rule - 3) ≡ rule
+unfolding ruleOf number
+ruleOf-number place = refl
+ruleOf-number header-rule = refl
+ruleOf-number state-rule = refl
+ruleOf-number existence = refl
+ruleOf-number register-rule = refl
+ruleOf-number edge-order = refl
+ruleOf-number edge-limit = refl
+ruleOf-number pair-rule = refl
+
+number-injective : (a b : Rule) → number a ≡ number b → a ≡ b
+number-injective a b e = sym (ruleOf-number a) ∙ ap (λ (n : ℕ). ruleOf (n - 3)) e ∙ ruleOf-number b
+
+pub number-bounds : (rule : Rule) → (3 ≤ number rule) × (number rule < 11)
+unfolding number
+number-bounds place = omega arith
+number-bounds header-rule = omega arith
+number-bounds state-rule = omega arith
+number-bounds existence = omega arith
+number-bounds register-rule = omega arith
+number-bounds edge-order = omega arith
+number-bounds edge-limit = omega arith
+number-bounds pair-rule = omega arith
+
+module _ (l : List Record) (x : Record) where
+  -- one rule more is not broken
+  pass : (rule : Rule) → (Breaks rule l x → ⊥) → Below (number rule) l x → Below (suc (number rule)) l x
+  pass rule kept below lower h broken = at (ℕ-discrete (number lower) (number rule))
+    where
+      at : Dec (number lower ≡ number rule) → ⊥
+      at (yes e) = kept (subst (λ (a : Rule). Breaks a l x) (number-injective lower rule e) broken)
+      at (no d) = below lower (omega arith) broken
+
+  -- a record in its place
+  placed : Allowed l x → Below 4 l x
+  unfolding number Breaks
+  placed allowed = pass place (λ out. out allowed) (λ rule h. absurd (omega (arith, number-bounds rule)))
+
+  pub misplaced : (Allowed l x → ⊥) → Judged l x 3
+  unfolding number Breaks
+  misplaced out = breaks place refl out (λ rule h. absurd (omega (arith, number-bounds rule)))
+
+  -- no rule is broken
+  obeyed : Below 11 l x → Judged l x 0
+  obeyed below = obeys refl (λ rule. below rule (number-bounds rule .1))
+
+  -- a test decides whether a rule is broken
+  check : (rule : Rule) (t : Bool) (n : ℕ) → Below (number rule) l x → (t ≡ true → Breaks rule l x)
+      → (t ≡ false → Breaks rule l x → ⊥)
+      → (t ≡ false → Below (suc (number rule)) l x → Judged l x n)
+      → Judged l x (cond t (number rule) n)
+  check rule true n below faulty kept rest = breaks rule refl (faulty refl) below
+  check rule false n below faulty kept rest = rest refl (pass rule (kept refl) below)
+
+-- ── Headers ──
+
+header-faulty : (r n q : ℕ) → (ltb maxRegisters r || eqb n 0 || ltb maxStates n || leb n q) ≡ true → HeaderFault (header r n q)
+unfolding HeaderFault
+header-faulty r n q h = at (some-of-four (ltb maxRegisters r) (eqb n 0) (ltb maxStates n) (leb n q) h)
+  where
+    at : (ltb maxRegisters r ≡ true) ⊎ (eqb n 0 ≡ true) ⊎ (ltb maxStates n ≡ true) ⊎ (leb n q ≡ true)
+        → HeaderFault (header r n q)
+    at (inl e) = inl (ltb-true maxRegisters r e)
+    at (inr (inl e)) = inr (inl (eqb-true n 0 e))
+    at (inr (inr (inl e))) = inr (inr (inl (ltb-true maxStates n e)))
+    at (inr (inr (inr e))) = inr (inr (inr (leb-true n q e)))
+
+header-kept : {r n q : ℕ} → HeaderFits r n q → HeaderFault (header r n q) → ⊥
+unfolding HeaderFault
+header-kept f (inl h) = omega arith
+header-kept f (inr (inl h)) = omega arith
+header-kept f (inr (inr (inl h))) = omega arith
+header-kept f (inr (inr (inr h))) = omega arith
+
+pub header-judged : (l : List Record) (r n q : ℕ) → Allowed l (header r n q) → Judged l (header r n q) (headerRefusal r n q)
+unfolding headerRefusal number Breaks StateFault Nonexistence KindFault OrderFault LimitFault PairFault
+header-judged l r n q allowed =
+    let x = header r n q in
+    check l x header-rule (ltb maxRegisters r || eqb n 0 || ltb maxStates n || leb n q) 0 (placed l x allowed) (header-faulty r n q)
+    (λ e. header-kept (header-fits r n q (rw e)))
+    (λ e below.
+    obeyed l x
+    (pass l x pair-rule (λ b. b)
+    (pass l x edge-limit (λ b. b)
+    (pass l x edge-order (λ b. b)
+    (pass l x register-rule (λ b. b) (pass l x existence (λ b. b) (pass l x state-rule (λ b. b) below)))))))
+
+-- ── States ──
+
+module _ (l : List Record) (m : Model) (q n set mark : ℕ) (due : statesRead l ≡ q) (same : m .registers ≡ registers l) where
+  state-faulty : (not (eqb n q) || leb (2 ^ m .registers) set || ltb 1 mark) ≡ true → StateFault l (state n set mark)
+  unfolding StateFault
+  state-faulty h = at (some-of-three (not (eqb n q)) (leb (2 ^ m .registers) set) (ltb 1 mark) h)
+    where
+      at : (not (eqb n q) ≡ true) ⊎ (leb (2 ^ m .registers) set ≡ true) ⊎ (ltb 1 mark ≡ true) → StateFault l (state n set mark)
+      at (inl e) = inl (λ d. eqb-false n q (not-true (eqb n q) e) (d ∙ due))
+      at (inr (inl e)) =
+          let w = has-above (m .registers) set (leb-true (2 ^ m .registers) set e) in
+          inr (inl (w .0, w .1, omega arith))
+      at (inr (inr e)) = inr (inr (ltb-true 1 mark e))
+
+  state-kept : StateFits m q n set mark → StateFault l (state n set mark) → ⊥
+  unfolding StateFault
+  state-kept f (inl h) = h (f .number-due ∙ sym due)
+  state-kept f (inr (inl w)) = omega (arith, has-below (m .registers) set (w .0) (f .set-fits) (w .1))
+  state-kept f (inr (inr h)) = omega arith
+
+  pub state-judged : Allowed l (state n set mark) → Judged l (state n set mark) (stateRefusal m q n set mark)
+  unfolding stateRefusal number Breaks HeaderFault Nonexistence KindFault OrderFault LimitFault PairFault
+  state-judged allowed =
+      let x = state n set mark in
+      check l x state-rule (not (eqb n q) || leb (2 ^ m .registers) set || ltb 1 mark) 0
+      (pass l x header-rule (λ b. b) (placed l x allowed)) state-faulty (λ e. state-kept (state-fits m q n set mark (rw e)))
+      (λ e below.
+      obeyed l x
+      (pass l x pair-rule (λ b. b)
+      (pass l x edge-limit (λ b. b)
+      (pass l x edge-order (λ b. b) (pass l x register-rule (λ b. b) (pass l x existence (λ b. b) below))))))
+
+-- ── Edges ──
+
+register-faulty : (r from to kind i : ℕ) → keepsRule r from to (kindOf kind i) ≡ false → RegisterFault from to i kind
+unfolding keepsRule RegisterFault
+register-faulty r from to zero i h =
+    ⊎-elim (λ (e : has from i ≡ false). inl e) (λ (e : inside r to (has from) ≡ false). inr (inside-false r to (has from) e))
+    (and-false (has from i) (inside r to (has from)) h)
+register-faulty r from to (suc zero) i h = inside-false r to (with from i) h
+register-faulty r from to (suc (suc kind)) i h = inside-false r to (with from i) h
+
+register-kept : (from to kind i : ℕ) → RegisterRule from to (kindOf kind i) → RegisterFault from to i kind → ⊥
+unfolding RegisterFault
+register-kept from to zero i rule (inl e) = not-both (has from i) (rule .0) e
+register-kept from to zero i rule (inr w) = not-both (has from (w .0)) (rule .1 (w .0) (w .1)) (w .2)
+register-kept from to (suc zero) i rule w = not-both (with from i (w .0)) (rule (w .0) (w .1)) (w .2)
+register-kept from to (suc (suc kind)) i rule w = not-both (with from i (w .0)) (rule (w .0) (w .1)) (w .2)
+
+module _ (l : List Record) (m : Model) (from tag kind i to : ℕ) (w : Written l m) where
+  existence-faulty : edgeExists m (from ∷ tag ∷ kind ∷ i ∷ to ∷ []) ≡ false → Nonexistence l (edge from tag kind i to)
+  unfolding edgeExists Nonexistence
+  existence-faulty h =
+      at
+      (not-all-of-six (ltb from (m .«state_count»)) (ltb tag tagCount) (leb kind 2) (leb 1 i) (leb i (m .registers))
+      (ltb to (m .«state_count»)) h)
+    where
+      at : (ltb from (m .«state_count») ≡ false) ⊎ (ltb tag tagCount ≡ false) ⊎ (leb kind 2 ≡ false) ⊎ (leb 1 i ≡ false)
+          ⊎ (leb i (m .registers) ≡ false) ⊎ (ltb to (m .«state_count») ≡ false)
+          → Nonexistence l (edge from tag kind i to)
+      at (inl e) = inl (omega (arith, ltb-false from (m .«state_count») e))
+      at (inr (inl e)) = inr (inl (ltb-false tag tagCount e))
+      at (inr (inr (inl e))) = inr (inr (inl (leb-false kind 2 e)))
+      at (inr (inr (inr (inl e)))) = inr (inr (inr (inl (omega (arith, leb-false 1 i e)))))
+      at (inr (inr (inr (inr (inl e))))) = inr (inr (inr (inr (inl (omega (arith, leb-false i (m .registers) e))))))
+      at (inr (inr (inr (inr (inr e))))) = inr (inr (inr (inr (inr (omega (arith, ltb-false to (m .«state_count») e))))))
+
+  existence-kept : EdgeExists m from tag kind i to → Nonexistence l (edge from tag kind i to) → ⊥
+  unfolding Nonexistence
+  existence-kept f (inl h) = omega arith
+  existence-kept f (inr (inl h)) = omega arith
+  existence-kept f (inr (inr (inl h))) = omega arith
+  existence-kept f (inr (inr (inr (inl h)))) = omega arith
+  existence-kept f (inr (inr (inr (inr (inl h))))) = omega arith
+  existence-kept f (inr (inr (inr (inr (inr h))))) = omega arith
+
+  rule-faulty : keepsRule (m .registers) (setOf m from) (setOf m to) (kindOf kind i) ≡ false
+      → KindFault l (edge from tag kind i to)
+  unfolding KindFault
+  rule-faulty h =
+      rw (← w .set-at from, ← w .set-at to) (register-faulty (m .registers) (setOf m from) (setOf m to) kind i h)
+
+  rule-obeyed : Whole m → EdgeExists m from tag kind i to
+      → keepsRule (m .registers) (setOf m from) (setOf m to) (kindOf kind i) ≡ true
+      → KindFault l (edge from tag kind i to)
+      → ⊥
+  unfolding KindFault
+  rule-obeyed whole f h fault =
+      register-kept (setOf m from) (setOf m to) kind i
+      (rule-kept (m .registers) (setOf m from) (setOf m to) (kindOf kind i) (whole .valid .states to (f .to-exists) .existing) h)
+      (rw (w .set-at from, w .set-at to) fault)
+
+  pub edge-judged : Whole m → Allowed l (edge from tag kind i to)
+      → Judged l (edge from tag kind i to) (edgeRefusal m (from ∷ tag ∷ kind ∷ i ∷ to ∷ []))
+  unfolding edgeRefusal number Breaks HeaderFault StateFault OrderFault LimitFault PairFault
+  edge-judged whole allowed =
+      check l x existence (not exists) _
+      (pass l x state-rule (λ b. b) (pass l x header-rule (λ b. b) (placed l x allowed)))
+      (λ e. existence-faulty (not-true exists e))
+      (λ e. existence-kept (edge-exists m from tag kind i to (not-false exists e)))
+      (λ d below.
+      check l x register-rule (not keeps) _ below (λ e. rule-faulty (not-true keeps e))
+      (λ e. rule-obeyed whole (edge-exists m from tag kind i to (not-false exists d)) (not-false keeps e))
+      (λ e below.
+      check l x edge-order (not above) _ below (λ e. sym (w .order from (tag ∷ kind ∷ i ∷ to ∷ [])) ∙ not-true above e)
+      (λ e h. not-both above (not-false above e) (w .order from (tag ∷ kind ∷ i ∷ to ∷ []) ∙ h)) (λ e below.
+      check l x edge-limit (leb maxEdges (m .«edge_count»)) 0 below
+      (λ e. omega (arith, leb-true maxEdges (m .«edge_count») e, whole .valid .edge-places))
+      (λ e h. omega (arith, leb-false maxEdges (m .«edge_count») e)) (λ e below. obeyed l x (pass l x pair-rule (λ b. b) below)))))
+    where
+      x : Record
+      x = edge from tag kind i to
+
+      exists : Bool
+      exists = edgeExists m (from ∷ tag ∷ kind ∷ i ∷ to ∷ [])
+
+      keeps : Bool
+      keeps = keepsRule (m .registers) (setOf m from) (setOf m to) (kindOf kind i)
+
+      above : Bool
+      above = rises m (from ∷ tag ∷ kind ∷ i ∷ to ∷ [])
+
+-- ── Pairs ──
+
+-- a partner stands at its left register's place
+partner-place : (partners : List ℕ) (a b : ℕ) → rightPartner partners a ≡ b → 1 ≤ b
+    → (k : ℕ) × (a ≡ suc k) × (k < length partners) × (getD partners k 0 ≡ b)
+unfolding rightPartner
+partner-place partners zero b e h = absurd (omega arith)
+partner-place partners (suc k) b e h = (k, refl, within (decLt k (length partners)), e)
+  where
+    within : Dec (k < length partners) → k < length partners
+    within (yes d) = d
+    within (no d) =
+        let out : length partners ≤ k = omega arith in
+        absurd (omega (arith, List·getD-eq-default partners 0 out))
+
+-- where a pair does not rise, another pair is not below it
+not-rising : (partners : List ℕ) (a : ℕ) → rising partners a ≡ false
+    → (i : ℕ) × (j : ℕ) × (rightPartner partners i ≡ j) × (1 ≤ j) × (a ≤ i)
+unfolding rising rightPartner
+not-rising partners a h =
+    let w = any-index (λ x. ltb 0 x) (drop (a - 1) partners) 0 (not-false (any (λ x. ltb 0 x) (drop (a - 1) partners)) h) in (
+      suc (a - 1 + w .0),
+      getD partners (a - 1 + w .0) 0,
+      refl,
+      rw (← getD-drop (a - 1) partners (w .0) 0) (ltb-true 0 (getD (drop (a - 1) partners) (w .0) 0) (w .2)),
+      omega arith,
+    )
+
+pub rising-above : (partners : List ℕ) (a i j : ℕ) → rising partners a ≡ true → rightPartner partners i ≡ j → 1 ≤ j → i < a
+unfolding rising
+rising-above partners a i j h e p = at (decLt i a)
+  where
+    at : Dec (i < a) → i < a
+    at (yes d) = d
+    at (no d) =
+        let w = partner-place partners i j e p in
+        let k = w .0 - (a - 1) in
+        let place : a - 1 + k ≡ w .0 = omega arith in
+        let within : k < length (drop (a - 1) partners) = rw length-drop (omega arith) in
+        let held : getD (drop (a - 1) partners) k 0 ≡ j = getD-drop (a - 1) partners k 0 ∙ rw place (w .3) in
+        absurd
+        (not-both (any (λ x. ltb 0 x) (drop (a - 1) partners))
+        (any-at (λ x. ltb 0 x) (drop (a - 1) partners) k 0 within (rw held (lt-ltb 0 j p)))
+        (not-true (any (λ x. ltb 0 x) (drop (a - 1) partners)) h))
+
+-- the register set of a model's start state
+start-set : (l : List Record) (m : Model) → Written l m → setOf m (m .start) ≡ startSet l
+start-set l m w = w .set-at (m .start) ∙ ap (setIn l) (w .start)
+
+module _ (l : List Record) (t : Task) (a b : ℕ) (left : Written (earlier l) (t .left)) (right : Written l (t .right))
+    (paired : Paired l (t .start .partners)) where
+  pair-faulty : (not (has (setOf (t .left) (t .left .start)) a) ≡ true)
+      ⊎ (not (has (setOf (t .right) (t .right .start)) b) ≡ true)
+      ⊎ (not (rising (t .start .partners) a) ≡ true)
+      ⊎ (any (eqb b) (t .start .partners) ≡ true)
+      → PairFault l (pair a b)
+  unfolding PairFault rightPartner
+  pair-faulty (inl e) = inl (rw (← start-set (earlier l) (t .left) left) (not-true (has (setOf (t .left) (t .left .start)) a) e))
+  pair-faulty (inr (inl e)) = inr (inl (rw (← start-set l (t .right) right) (not-true (has (setOf (t .right) (t .right .start)) b) e)))
+  pair-faulty (inr (inr (inl e))) =
+      let w = not-rising (t .start .partners) a (not-true (rising (t .start .partners) a) e) in
+      inr (inr (inl (w .0, w .1, paired .read (w .0) (w .1) (w .2) (w .3), w .4)))
+  pair-faulty (inr (inr (inr e))) =
+      let w = any-index (eqb b) (t .start .partners) 0 e in
+      let used = sym (eqb-true b (getD (t .start .partners) (w .0) 0) (w .2)) in
+      ⊎-elim (λ (h : has (startSet l) b ≡ true). inr (inr (inr (suc (w .0), paired .read (suc (w .0)) b used (has-positive (startSet l) b h)))))
+      (λ (h : has (startSet l) b ≡ false). inr (inl h)) (passes-or-fails (has (startSet l) b))
+
+  pair-kept : PairFits t a b → PairFault l (pair a b) → ⊥
+  unfolding PairFault
+  pair-kept f (inl h) = not-both (has (setOf (t .left) (t .left .start)) a) (f .left) (rw (start-set (earlier l) (t .left) left) h)
+  pair-kept f (inr (inl h)) = not-both (has (setOf (t .right) (t .right .start)) b) (f .right) (rw (start-set l (t .right) right) h)
+  pair-kept f (inr (inr (inl w))) =
+      let old = paired .joined (w .0) (w .1) (w .2) in
+      omega (arith, rising-above (t .start .partners) a (w .0) (w .1) (f .rises) (old .1) (old .0))
+  pair-kept f (inr (inr (inr w))) =
+      let old = paired .joined (w .0) b (w .1) in
+      let v = partner-place (t .start .partners) (w .0) b (old .1) (old .0) in
+      not-both (any (eqb b) (t .start .partners)) (any-at (eqb b) (t .start .partners) (v .0) 0 (v .2) (eq-eqb b _ (sym (v .3)))) (f .unused)
+
+  pub pair-judged : Allowed l (pair a b) → Judged l (pair a b) (pairRefusal t a b)
+  unfolding pairRefusal number Breaks HeaderFault StateFault Nonexistence KindFault OrderFault LimitFault
+  pair-judged allowed =
+      let x = pair a b in
+      check l x pair-rule _ 0
+      (pass l x edge-limit (λ b. b)
+      (pass l x edge-order (λ b. b)
+      (pass l x register-rule (λ b. b)
+      (pass l x existence (λ b. b) (pass l x state-rule (λ b. b) (pass l x header-rule (λ b. b) (placed l x allowed)))))))
+      (λ e. pair-faulty (some-of-four _ _ _ _ e)) (λ e. pair-kept (pair-fits t a b (rw e))) (λ e. obeyed l x)
+
+-- ── The end ──
+
+pub end-judged : (l : List Record) → Allowed l end → Judged l end 0
+unfolding number Breaks HeaderFault StateFault Nonexistence KindFault OrderFault LimitFault PairFault
+end-judged l allowed =
+    obeyed l end
+    (pass l end pair-rule (λ b. b)
+    (pass l end edge-limit (λ b. b)
+    (pass l end edge-order (λ b. b)
+    (pass l end register-rule (λ b. b)
+    (pass l end existence (λ b. b) (pass l end state-rule (λ b. b) (pass l end header-rule (λ b. b) (placed l end allowed))))))))

@@ -1,0 +1,10 @@
+pub mod Tests
+pub mod Sets
+pub mod Arrays
+pub mod Reading
+pub mod Checks
+pub mod Models
+pub mod Valid
+pub mod Ties
+pub mod Judging
+pub mod Refusals

@@ -1,0 +1,199 @@
+-- What is read so far says what the records read so far say. Assumes nothing.
+use Prim.Native.Nat.{ℕ, zero, suc, _+_, _-_, _≤_, _<_}
+use mathlib.Core.Path.{_≡_, refl, sym, _∙_, ap, subst}
+use mathlib.Core.Logic.{_⊎_, inl, inr, ⊎-elim}
+use mathlib.Core.Bool.{Bool, true, false, not, cond, _&&_, _||_}
+use mathlib.Core.List.{List, [], _∷_, List·Memᴰ·head, List·Memᴰ·tail, List·Memᴰ·not-nil, List·Memᴰ·cases-cons}
+use native.Mathlib.Omega.{arith}
+use native.Mathlib.Decide.{ℕ-discrete, decLt}
+use lib.ListN.{length, getD, set, replicate, drop}
+use lib.Dec.{ltb, leb, eqb, eqb·suc-zero, eqb·suc-suc}
+use borrow.Author.Tests.{eqb-true, eqb-false, eq-eqb, ne-eqb}
+use Rattle.fra.specs.Lists.{_∈_, below}
+use Rattle.fra.specs.Model.{noState, setOf, edgeOf, edgeBytes}
+use Rattle.fra.specs.Rules.{modelOf}
+use Rattle.fra.specs.Position.{rightPartner}
+use Rattle.fra.specs.declared.Edge.{Edge}
+use Rattle.fra.specs.declared.Model.{Model}
+use Rattle.fra.specs.declared.Task.{Task}
+use Rattle.fra.specs.declared.Side.{Side}
+use Rattle.fra.specs.declared.Side.the-variants.{Left, Right}
+use Rattle.task.specs.Records.{Record, header, state, edge, pair, end, headers, earlier, registers, states, start, statesRead, edgesRead, lastEdge, setIn, Complete, NoPair, NoEnd}
+use Rattle.task.specs.TaskFile.{maxStates, headed, withState, edgeOfBody, rises, withEdge, withPair}
+use Rattle.task.specs.declared.Stage.{Stage}
+use Rattle.task.specs.declared.Stage.the-variants.{Start, States, Edges, Pairs, Ended}
+use Rattle.task.specs.declared.Progress.{Progress}
+use Rattle.task_laws.proofs.Arrays.{getD-set}
+use Rattle.task_laws.proofs.Models.{setOf-withState, edgeOf-withEdge, edgeBytes-read, rises-first, rises-after}
+
+-- ── Models ──
+
+-- a model has this many registers, states and edges, this start state, these register sets and this last edge
+pub record Contents (r n q e : ℕ) (sets : ℕ → ℕ) (last : List ℕ) (m : Model) : Type 0 where
+  pub registers : m .registers ≡ r
+  pub states : m .«state_count» ≡ n
+  pub start : m .start ≡ q
+  pub edges : m .«edge_count» ≡ e
+  pub set-at : (k : ℕ) → setOf m k ≡ sets k
+  pub order : (b : ℕ) (body : List ℕ) → rises m (b ∷ body) ≡ below last (b ∷ body)
+
+-- a model has what the records since the latest header give it
+abbrev pub Written : List Record → Model → Type 0
+Written l m = Contents (registers l) (states l) (start l) (edgesRead l) (setIn l) (lastEdge l) m
+
+getD-replicate-default : {A : Type 0} (n k : ℕ) (a : A) → getD (replicate n a) k a ≡ a
+getD-replicate-default zero k a = refl
+getD-replicate-default (suc n) zero a = refl
+getD-replicate-default (suc n) (suc k) a = getD-replicate-default n k a
+
+pub written-headed : (l : List Record) (r n q : ℕ) → Written (header r n q ∷ l) (headed r n q)
+unfolding headed registers states start edgesRead lastEdge setIn setOf below
+written-headed l r n q =
+    record {
+      registers = refl;
+      states = refl;
+      start = refl;
+      edges = refl;
+      set-at = λ k. rw (getD-replicate-default maxStates k noState);
+      order = λ b body. rises-first (headed r n q) refl (b ∷ body);
+    }
+
+pub written-withState : (l : List Record) {m : Model} (q n registers mark : ℕ) → q < length (m .states) → n ≡ q → Written l m
+    → Written (state n registers mark ∷ l) (withState m q registers mark)
+unfolding withState registers states start edgesRead lastEdge setIn rises edgeOf
+written-withState l {m} q n registers mark room due w =
+    record {
+      registers = w .registers;
+      states = w .states;
+      start = w .start;
+      edges = w .edges;
+      set-at = λ k. setOf-withState m q registers mark room k ∙ rw (due, w .set-at k);
+      order = w .order;
+    }
+
+pub written-withEdge : (l : List Record) {m : Model} (from tag kind i to : ℕ) → m .«edge_count» < length (m .edges) → kind ≤ 2
+    → Written l m
+    → Written (edge from tag kind i to ∷ l) (withEdge m (edgeOfBody (from ∷ tag ∷ kind ∷ i ∷ to ∷ [])))
+unfolding withEdge registers states start edgesRead lastEdge setIn setOf
+written-withEdge l {m} from tag kind i to room exists w =
+    record {
+      registers = w .registers;
+      states = w .states;
+      start = w .start;
+      edges = omega arith;
+      set-at = w .set-at;
+      order = λ b body. rises-after (withEdge m e) (m .«edge_count») (omega arith) (b ∷ body) ∙ rw last;
+    }
+  where
+    e : Edge
+    e = edgeOfBody (from ∷ tag ∷ kind ∷ i ∷ to ∷ [])
+
+    last : edgeBytes (edgeOf (withEdge m e) (m .«edge_count»)) ≡ from ∷ tag ∷ kind ∷ i ∷ to ∷ []
+    last =
+        rw (edgeOf-withEdge m e room (m .«edge_count»), eq-eqb (m .«edge_count») (m .«edge_count») refl)
+        (edgeBytes-read from tag kind i to exists)
+
+-- ── Pairs ──
+
+-- the partners are the pairs that are read
+pub record Paired (l : List Record) (partners : List ℕ) : Type 0 where
+  pub joined : (a b : ℕ) → pair a b ∈ l → (1 ≤ b) × (rightPartner partners a ≡ b)
+  pub read : (a b : ℕ) → rightPartner partners a ≡ b → 1 ≤ b → pair a b ∈ l
+
+-- a number for each constructor of a record
+abbrev pub shape : Record → ℕ
+shape (header r n q) = 1
+shape (state n set mark) = 2
+shape (edge from tag kind i to) = 3
+shape (pair a b) = 4
+shape end = 15
+
+pub paired-none : (l : List Record) (n : ℕ) → NoPair l → Paired l (replicate n 0)
+unfolding rightPartner
+paired-none l n no-pair = record { joined = λ a b m. absurd (no-pair a b m); read = λ a b e h. absurd (none a b e h) }
+  where
+    none : (a b : ℕ) → rightPartner (replicate n 0) a ≡ b → 1 ≤ b → ⊥
+    none zero b e h = omega arith
+    none (suc k) b e h = omega (arith, getD-replicate-default {A = ℕ} n k 0)
+
+pub paired-other : {l : List Record} {partners : List ℕ} (x : Record) → (shape x ≡ 4 → ⊥) → Paired l partners → Paired (x ∷ l) partners
+paired-other {l} x other h =
+    record {
+      joined = λ a b m. ⊎-elim (λ (e : pair a b ≡ x). absurd (other (sym (ap shape e)))) (h .joined a b) (List·Memᴰ·cases-cons m);
+      read = λ a b e p. List·Memᴰ·tail (h .read a b e p);
+    }
+
+partner-set : (partners : List ℕ) (a b i : ℕ) → 1 ≤ a → a ≤ length partners
+    → rightPartner (set partners (a - 1) b) i ≡ cond (eqb a i) b (rightPartner partners i)
+unfolding rightPartner
+partner-set partners zero b i least fits = absurd (omega arith)
+partner-set partners (suc j) b zero least fits = rw eqb·suc-zero
+partner-set partners (suc j) b (suc k) least fits =
+    let place : suc j - 1 ≡ j = omega arith in
+    rw (place, eqb·suc-suc) (getD-set partners j k b 0 fits)
+
+-- a pair above all others is read
+pub paired-set : {l : List Record} {partners : List ℕ} (a b : ℕ) → 1 ≤ a → a ≤ length partners → 1 ≤ b
+    → ((i j : ℕ) → pair i j ∈ l → i < a) → Paired l partners
+    → Paired (pair a b ∷ l) (set partners (a - 1) b)
+paired-set {l} {partners} a b least fits positive above h =
+    record { joined = λ i j m. joined i j (List·Memᴰ·cases-cons m); read = λ i j e p. read i j e p (eqb a i) refl }
+  where
+    joined : (i j : ℕ) → (pair i j ≡ pair a b) ⊎ (pair i j ∈ l) → (1 ≤ j) × (rightPartner (set partners (a - 1) b) i ≡ j)
+    joined i j (inl e) =
+        let left : i ≡ a = cc in
+        let right : j ≡ b = cc in
+        (omega arith, rw (partner-set partners a b i least fits, eq-eqb a i (sym left)) (sym right))
+    joined i j (inr m) =
+        let old = h .joined i j m in
+        let less = above i j m in
+        (old .0, rw (partner-set partners a b i least fits, ne-eqb a i (omega arith)) (old .1))
+
+    read : (i j : ℕ) → rightPartner (set partners (a - 1) b) i ≡ j → 1 ≤ j → (t : Bool) → eqb a i ≡ t → pair i j ∈ pair a b ∷ l
+    read i j e p true d =
+        let left = eqb-true a i d in
+        let right = rw (partner-set partners a b i least fits, d) at e in
+        let same : pair i j ≡ pair a b = cc in
+        List·Memᴰ·head same
+    read i j e p false d = List·Memᴰ·tail (h .read i j (rw (partner-set partners a b i least fits, d) at e) p)
+
+-- ── Stages ──
+
+-- the headers read while a side's model is read
+abbrev pub headersOf : Side → ℕ
+headersOf Left = 1
+headersOf Right = 2
+
+-- what a stage says of the records read so far
+abbrev pub Reached : Stage → List Record → Type 0
+Reached Start l = l ≡ []
+Reached (States s q) l = (headers l ≡ headersOf s) × (statesRead l ≡ q) × (q < states l) × NoPair l × NoEnd l
+Reached (Edges s) l = (headers l ≡ headersOf s) × Complete l × NoPair l × NoEnd l
+Reached Pairs l = (headers l ≡ 2) × Complete l × ((a : ℕ) × (b : ℕ) × (pair a b ∈ l)) × NoEnd l
+Reached Ended l = (headers l ≡ 2) × Complete l × ((k : List Record) × (l ≡ end ∷ k))
+
+-- beside the model that is being read
+abbrev pub Beside : Side → List Record → Task → Type 0
+Beside Left l t = Unit {0}
+Beside Right l t = Written (earlier l) (t .left) × Paired l (t .start .partners)
+
+-- the task is what the records say
+abbrev pub Says : Stage → List Record → Task → Type 0
+Says Start l t = Unit {0}
+Says (States s q) l t = Written l (modelOf t s) × Beside s l t
+Says (Edges s) l t = Written l (modelOf t s) × Beside s l t
+Says Pairs l t = Written l (t .right) × Beside Right l t
+Says Ended l t = Written l (t .right) × Beside Right l t
+
+abbrev pub TiedAt : Stage → List Record → Task → Type 0
+TiedAt stage l t = Reached stage l × Says stage l t
+
+abbrev pub Tied : List Record → Progress → Type 0
+Tied l p = TiedAt (p .stage) l (p .task)
+
+pub no-pair-more : {l : List Record} {x : Record} → (shape x ≡ 4 → ⊥) → NoPair l → NoPair (x ∷ l)
+no-pair-more {l} {x} other h a b m =
+    ⊎-elim (λ (e : pair a b ≡ x). other (sym (ap shape e))) (h a b) (List·Memᴰ·cases-cons m)
+
+pub no-end-more : {l : List Record} {x : Record} → (shape x ≡ 15 → ⊥) → NoEnd l → NoEnd (x ∷ l)
+no-end-more {l} {x} other h m = ⊎-elim (λ (e : end ≡ x). other (sym (ap shape e))) h (List·Memᴰ·cases-cons m)

@@ -1,0 +1,1 @@
+// Laws of the task file: theorems in proofs/, nothing to run.

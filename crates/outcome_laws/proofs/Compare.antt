@@ -110,6 +110,24 @@ module _ (c : Contest) (t : Task) (table buffer : List ℕ) where
   decided-not-refused positions length n none e = let z : _≡_ {A = ℕ} 0 1 = cc in omega arith
   decided-not-refused positions length n (some k) e = let z : _≡_ {A = ℕ} 0 1 = cc in omega arith
 
+  -- both fill the table with zeros and leave the certificate buffer
+  pub late-outcome : (n : ℕ) → compareTask c t table buffer .answer ≡ Refused n
+      → compareTask c t table buffer ≡ record { answer = Refused n; table = cleared table; certificate = buffer }
+  unfolding refusedLate
+  late-outcome n = by compared
+    where
+      late : (m : ℕ) → m ≡ n
+          → _≡_ {A = Outcome}
+          (record { answer = Refused m; table = cleared table; certificate = buffer })
+          (record { answer = Refused n; table = cleared table; certificate = buffer })
+      late m d = ap (λ (k : ℕ). record { answer = Refused k; table = cleared table; certificate = buffer }) d
+
+      by : {o : Outcome} → Compared o → o .answer ≡ Refused n
+          → o ≡ record { answer = Refused n; table = cleared table; certificate = buffer }
+      by (too-small h) e = late 11 (cc)
+      by (too-long h l) e = late 12 (cc)
+      by (verdict h l) e = absurd (decided-not-refused (length (reached (c .rules) t)) (length written) n start e)
+
   module _ {r : ℕ} (valid : Valid r t) where
     pub too-small-exactly : (capacity table < length (reached (c .rules) t)) ↔ TableTooSmall (c .rules) t table
     too-small-exactly = (

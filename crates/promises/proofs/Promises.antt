@@ -9,7 +9,8 @@ use native.Mathlib.Omega.{arith}
 use lib.ListN.{length, take}
 use Rattle.fra.specs.Rules.{Rules, bisimulation}
 use Rattle.fra.specs.Game.{Bisimulation}
-use Rattle.fra.specs.Reach.{reached}
+use Rattle.fra.specs.Lists.{_∈_}
+use Rattle.fra.specs.Reach.{reached, rounds}
 use Rattle.fra.specs.declared.Position.{Position}
 use Rattle.fra.specs.declared.Task.{Task}
 use Rattle.task.specs.TaskFile.{readTask, maxRegisters}
@@ -32,7 +33,7 @@ use Rattle.fra_laws.proofs.Bisimulation.{keptMembers, never-lost-in-bisimulatio
 use Rattle.task_laws.proofs.Valid.{read-valid}
 use Rattle.task_laws.proofs.Refusals.{refused-exactly as unread-exactly}
 use Rattle.outcome_laws.proofs.Written.{reached-closed}
-use Rattle.outcome_laws.proofs.Compare.{Says, Late, refused-exactly, decided-otherwise}
+use Rattle.outcome_laws.proofs.Compare.{Says, refused-exactly, late-outcome}
 use Rattle.number_laws.proofs.Agreement.{opening-exists, least-enough-iff-first-lost, never-enough-iff-never-lost}
 use Rattle.promises.proofs.Support.{taskOf, compared-read, compared-unread, decided-read, rounds-never, rounds-least}
 
@@ -57,17 +58,70 @@ module _ (file table buffer : List ℕ) where
       by : (a : Answer) → readTask file .answer ≡ a → (outcome .answer ≡ Refused n) ↔ ComparerRefusal n
       by Read e =
           let same = ap (λ (o : Outcome). o .answer) (compared-read equality file table buffer e) in
-          let late = refused-exactly equality (taskOf file) table buffer (read-valid file e) n in
-          (
+          let late = refused-exactly equality (taskOf file) table buffer (read-valid file e) n in (
             λ h. inr (e, late .0 (sym same ∙ h)),
             ⊎-elim
-            (λ back. let d = unread-exactly file n .1 back in let z : _≡_ {A = ℕ} 0 1 = cc in absurd (omega arith))
-            (λ (f, h). same ∙ late .1 h),
+                (λ back. let d = unread-exactly file n .1 back in let z : _≡_ {A = ℕ} 0 1 = cc in absurd (omega arith))
+                (λ (f, h). same ∙ late .1 h),
           )
       by (Unread m) e =
-          let same = ap (λ (o : Outcome). o .answer) (compared-unread equality file table buffer m e) in
-          (
+          let same = ap (λ (o : Outcome). o .answer) (compared-unread equality file table buffer m e) in (
             λ h. let d : m ≡ n = cc in inl (unread-exactly file n .0 (e ∙ ap (λ (k : ℕ). Unread k) d)),
             ⊎-elim (λ back. let d = unread-exactly file n .1 back in let f : m ≡ n = cc in same ∙ ap (λ (k : ℕ). Refused k) f)
-            (λ (f, h). let z : _≡_ {A = ℕ} 0 1 = cc in absurd (omega arith)),
+                (λ (f, h). let z : _≡_ {A = ℕ} 0 1 = cc in absurd (omega arith)),
           )
+
+  -- Otherwise it gives a verdict.
+  pub comparer-decides-otherwise : ((n : ℕ) → ComparerRefusal n → ⊥)
+      → (v : Verdict) × (positions : ℕ) × (n : ℕ) × (size : ℕ) × (outcome .answer ≡ Decided v positions n size)
+  comparer-decides-otherwise none-holds = by (outcome .answer) refl
+    where
+      by : (a : Comparison) → outcome .answer ≡ a
+          → (v : Verdict) × (positions : ℕ) × (n : ℕ) × (size : ℕ) × (outcome .answer ≡ Decided v positions n size)
+      by (Decided v positions n size) e = (v, positions, n, size, e)
+      by (Refused n) e = absurd (none-holds n (comparer-refuses-exactly n .0 e))
+
+  -- "1 to 10 change no buffer"
+  pub early-refusal-changes-nothing : (n : ℕ) → TurnedBack n file
+      → outcome ≡ record { answer = Refused n; table = table; certificate = buffer }
+  early-refusal-changes-nothing n back = compared-unread equality file table buffer n (unread-exactly file n .1 back)
+
+  -- "11 and 12 fill the table with zeros and leave the certificate buffer"
+  pub late-refusal-clears-the-table : (n : ℕ) → readTask file .answer ≡ Read → outcome .answer ≡ Refused n
+      → outcome ≡ record { answer = Refused n; table = cleared table; certificate = buffer }
+  late-refusal-clears-the-table n e h =
+      compared-read equality file table buffer e
+      ∙ late-outcome equality (taskOf file) table buffer n
+      (ap (λ (o : Outcome). o .answer) (sym (compared-read equality file table buffer e)) ∙ h)
+
+-- ── Demand 2: EQUAL means that a symbolic bisimulation contains the start, DIFFER that there is none ──
+
+module _ (file table buffer : List ℕ) (positions n size : ℕ) where
+  -- Of a comparison that is EQUAL: the positions reached that are never lost are such a bisimulation.
+  pub equal-means-bisimilar : compare equality file table buffer .answer ≡ Decided Equal positions n size
+      → (R : Position → Type 0) × Bisimulation bisimulation maxRegisters (taskOf file) R × R (taskOf file .start)
+  equal-means-bisimilar given =
+      let (read, says) = decided-read equality file table buffer Equal positions n size given in
+      let valid = read-valid file read in
+      let t = taskOf file in
+      let (b, m) =
+      never-lost-in-bisimulation bisimulation maxRegisters t (reached bisimulation t) (reached-closed valid bisimulation)
+      (reached-legal valid bisimulation) (t .start) (reached-start valid bisimulation)
+      (rounds-never valid bisimulation .0 (equal-never says)) in
+      ((λ p. p ∈ keptMembers bisimulation t (reached bisimulation t)), b, m)
+    where
+      equal-never : Says equality (taskOf file) table buffer Equal positions n size
+          → rounds bisimulation (taskOf file) (taskOf file .start) ≡ none
+      equal-never says = ⊎-elim (λ (e, never, z). never) (λ (e, lost). let z : _≡_ {A = ℕ} 0 1 = cc in absurd (omega arith)) (says .start)
+
+  -- Of a comparison that is DIFFER: no set of positions whatever is one.
+  pub differ-means-not-bisimilar : compare equality file table buffer .answer ≡ Decided Differ positions n size
+      → (R : Position → Type 0) → Bisimulation bisimulation maxRegisters (taskOf file) R → R (taskOf file .start) → ⊥
+  differ-means-not-bisimilar given =
+      let (read, says) = decided-read equality file table buffer Differ positions n size given in
+      let (rank, bound) = rounds-least (read-valid file read) bisimulation n (differ-lost says) in
+      lost-in-no-bisimulation bisimulation maxRegisters (taskOf file) n (taskOf file .start) (rank .lost)
+    where
+      differ-lost : Says equality (taskOf file) table buffer Differ positions n size
+          → rounds bisimulation (taskOf file) (taskOf file .start) ≡ some n
+      differ-lost says = ⊎-elim (λ (e, never, z). let z : _≡_ {A = ℕ} 0 1 = cc in absurd (omega arith)) (λ (e, lost). lost) (says .start)

@@ -51,9 +51,10 @@ module _ (c : Contest) (file table buffer : List ℕ) where
     where
       by : (a : Answer) → readTask file .answer ≡ a
           → (readTask file .answer ≡ Read) × Says c (taskOf file) table buffer v positions n size
-      by Read r =
-          (r,
-          verdict-says c (taskOf file) table buffer v positions n size (ap (λ (o : Outcome). o .answer) (sym (compared-read r)) ∙ e))
+      by Read r = (
+        r,
+        verdict-says c (taskOf file) table buffer v positions n size (ap (λ (o : Outcome). o .answer) (sym (compared-read r)) ∙ e),
+      )
       by (Unread m) r =
           let d = ap (λ (o : Outcome). o .answer) (compared-unread m r) in
           let z : _≡_ {A = ℕ} 0 1 = cc in

@@ -1,0 +1,577 @@
+//! The heap baseline for measurements: a HashMap from packed positions to
+//! dense numbers, and a predecessor work list for the rounds.
+//!
+//! It shares the data types with the rest and the writer of certificates;
+//! positions, attacks and replies are its own, made for speed:
+//!
+//! - A position is 26 bits: two states of 4 bits, six partners of 3 bits,
+//!   in the order of the position bytes, so packed order is byte order.
+//! - The round "left attacks with e, right replies with f" and the round
+//!   "right attacks with f, left replies with e" lead to the same position.
+//!   So positions are made once for every such couple of edges.
+//! - For a locally fresh edge, case 7 has the same replies as case 8 or
+//!   fewer. So case 8 adds positions, but never rounds.
+//! - A position that has an attack without reply is lost in 1 round (or 0);
+//!   it needs no place in the predecessor lists.
+
+use crate::compare::{Solution, NEVER_LOST};
+use crate::game::Position;
+use crate::model::*;
+use std::collections::HashMap;
+use std::hash::{BuildHasherDefault, Hasher};
+
+/// One multiplication, folded; enough for keys that are packed positions.
+#[derive(Default)]
+pub struct FoldHasher(u64);
+
+impl Hasher for FoldHasher {
+    fn finish(&self) -> u64 {
+        self.0
+    }
+
+    fn write(&mut self, bytes: &[u8]) {
+        for &byte in bytes {
+            self.write_u32(byte as u32);
+        }
+    }
+
+    fn write_u32(&mut self, key: u32) {
+        let wide = (self.0 ^ key as u64 ^ 0x243f_6a88_85a3_08d3) as u128 * 0x9e37_79b9_7f4a_7c15;
+        self.0 = (wide >> 64) as u64 ^ wide as u64;
+    }
+}
+
+type Numbers = HashMap<u32, u32, BuildHasherDefault<FoldHasher>>;
+
+const FIELD: u32 = 7;
+
+/// Where the partner of a left register stands in a packed position.
+fn shift(register: u8) -> u32 {
+    3 * (MAX_REGISTERS as u32 - register as u32)
+}
+
+fn pack(position: &Position) -> u32 {
+    let states = (position.left as u32) << 22 | (position.right as u32) << 18;
+    let fields = (1..=6u8).map(|r| (position.partners[r as usize - 1] as u32) << shift(r));
+    states | fields.sum::<u32>()
+}
+
+fn unpack(packed: u32) -> Position {
+    let mut partners = [0; MAX_REGISTERS];
+    for register in 1..=6u8 {
+        partners[register as usize - 1] = (packed >> shift(register) & FIELD) as u8;
+    }
+    Position { left: (packed >> 22) as u8, right: (packed >> 18 & 15) as u8, partners }
+}
+
+/// An edge as the inner loops want it.
+#[derive(Clone, Copy)]
+struct Step {
+    register: u8,
+    to: u8,
+    to_set: u8,
+    is_global: bool,
+}
+
+/// The edges of one side with one tag from one state.
+#[derive(Clone, Default)]
+struct Bundle {
+    known: Vec<Step>,
+    fresh: Vec<Step>,
+    /// Registers that have a known edge here.
+    known_set: u8,
+    local_count: usize,
+}
+
+impl Bundle {
+    fn is_empty(&self) -> bool {
+        self.known.is_empty() && self.fresh.is_empty()
+    }
+}
+
+fn bundle(model: &Model, state: u8, tag: u8) -> Bundle {
+    let mut made = Bundle::default();
+    for (_, edge) in model.edges_from(state).filter(|(_, e)| e.tag == tag) {
+        let step = Step {
+            register: edge.register,
+            to: edge.to,
+            to_set: model.set(edge.to).0,
+            is_global: edge.kind == Kind::GloballyFresh,
+        };
+        match edge.kind {
+            Kind::Known => {
+                made.known.push(step);
+                made.known_set |= 1 << (edge.register - 1);
+            }
+            kind => {
+                made.fresh.push(step);
+                made.local_count += (kind == Kind::LocallyFresh) as usize;
+            }
+        }
+    }
+    made
+}
+
+/// What two states have to say to each other: one couple of bundles for
+/// each tag that either of them uses.
+#[derive(Clone, Default)]
+struct Encounter {
+    tags: Vec<(Bundle, Bundle)>,
+    marks_differ: bool,
+    left_set: u8,
+    right_set: u8,
+}
+
+fn encounter(task: &Task, left: u8, right: u8) -> Encounter {
+    let couples =
+        (0..=MAX_TAG).map(|t| (bundle(&task.left, left, t), bundle(&task.right, right, t)));
+    Encounter {
+        tags: couples.filter(|(l, r)| !l.is_empty() || !r.is_empty()).collect(),
+        marks_differ: task.left.end_mark(left) != task.right.end_mark(right),
+        left_set: task.left.set(left).0,
+        right_set: task.right.set(right).0,
+    }
+}
+
+/// A matching taken apart: partners both ways (place 0 is unused) and the
+/// registers that have one.
+struct Matching {
+    packed: u32,
+    of_left: [u8; 7],
+    of_right: [u8; 8],
+    left_matched: u8,
+    right_matched: u8,
+}
+
+impl Matching {
+    fn of(packed: u32) -> Matching {
+        let mut m = Matching {
+            packed: packed & 0x3_ffff,
+            of_left: [0; 7],
+            of_right: [0; 8],
+            left_matched: 0,
+            right_matched: 0,
+        };
+        for register in 1..=6u8 {
+            let partner = (packed >> shift(register) & FIELD) as u8;
+            if partner != 0 {
+                m.of_left[register as usize] = partner;
+                m.of_right[partner as usize] = register;
+                m.left_matched |= 1 << (register - 1);
+                m.right_matched |= 1 << (partner - 1);
+            }
+        }
+        m
+    }
+
+    /// The packed position after a round in which the left reader went by
+    /// `left` and the right one by `right`. `fields` has the partners without
+    /// those of written registers; the new pair is put in here.
+    fn after(&self, left: &Step, right: &Step, mut fields: u32) -> u32 {
+        // Registers that the left reader drops.
+        let mut dropped = self.left_matched & !left.to_set;
+        while dropped != 0 {
+            let register = dropped.trailing_zeros() as u8 + 1;
+            fields &= !(FIELD << shift(register));
+            dropped &= dropped - 1;
+        }
+        let mut dropped = self.right_matched & !right.to_set;
+        while dropped != 0 {
+            let register = dropped.trailing_zeros() as usize + 1;
+            fields &= !(FIELD << shift(self.of_right[register]));
+            dropped &= dropped - 1;
+        }
+        let both_hold = left.to_set >> (left.register - 1) & right.to_set >> (right.register - 1);
+        if both_hold & 1 == 1 {
+            let at = shift(left.register);
+            fields = fields & !(FIELD << at) | (right.register as u32) << at;
+        }
+        (left.to as u32) << 22 | (right.to as u32) << 18 | fields
+    }
+
+    fn without_left(&self, fields: u32, register: u8) -> u32 {
+        fields & !(FIELD << shift(register))
+    }
+
+    fn without_right(&self, fields: u32, register: u8) -> u32 {
+        match self.of_right[register as usize] {
+            0 => fields,
+            left => fields & !(FIELD << shift(left)),
+        }
+    }
+}
+
+/// The attacks of one position that have replies, each as the dense numbers
+/// of the positions that its replies lead to.
+#[derive(Default)]
+struct Attacks {
+    targets: Vec<u32>,
+    /// Where each attack's targets end.
+    ends: Vec<u32>,
+    /// The position's rounds are known: its end marks differ, or some attack
+    /// has no reply at all.
+    decided: bool,
+}
+
+impl Attacks {
+    fn clear(&mut self) {
+        self.targets.clear();
+        self.ends.clear();
+        self.decided = false;
+    }
+
+    /// An attack that a reply can bring back to where it was decides
+    /// nothing, so it is left out.
+    fn add(&mut self, own: u32, targets: impl Iterator<Item = u32>) {
+        if self.decided {
+            return;
+        }
+        let begin = self.targets.len();
+        self.targets.extend(targets);
+        let added = &self.targets[begin..];
+        if added.is_empty() {
+            self.decided = true;
+        } else if added.contains(&own) {
+            self.targets.truncate(begin);
+        } else {
+            self.ends.push(self.targets.len() as u32);
+        }
+    }
+}
+
+/// Positions by dense number, and the way back.
+struct Reached {
+    packed: Vec<u32>,
+    numbers: Numbers,
+}
+
+impl Reached {
+    /// Most positions are met many times, so looking comes before entering.
+    #[inline]
+    fn number(&mut self, packed: u32) -> u32 {
+        if let Some(&number) = self.numbers.get(&packed) {
+            return number;
+        }
+        let number = self.packed.len() as u32;
+        self.numbers.insert(packed, number);
+        self.packed.push(packed);
+        number
+    }
+}
+
+/// All attacks of all undecided positions, as one flat list.
+#[derive(Default)]
+struct AttackGraph {
+    owners: Vec<u32>,
+    /// Where each attack's targets end; they begin where the ones before end.
+    ends: Vec<u32>,
+    targets: Vec<u32>,
+}
+
+impl AttackGraph {
+    fn targets_of(&self, attack: usize) -> &[u32] {
+        let begin = if attack == 0 { 0 } else { self.ends[attack - 1] as usize };
+        &self.targets[begin..self.ends[attack] as usize]
+    }
+}
+
+struct Explorer<'a> {
+    encounters: &'a [Encounter],
+    reached: Reached,
+    rounds: Vec<u32>,
+    graph: AttackGraph,
+    attacks: Attacks,
+    /// Targets of couples of edges, row by row.
+    grid: Vec<u32>,
+    /// Column and target of couples of known edges, row by row.
+    couples: Vec<(usize, u32)>,
+}
+
+impl Explorer<'_> {
+    fn run(&mut self, start: u32) {
+        self.reached.number(start);
+        let mut own = 0;
+        while let Some(&packed) = self.reached.packed.get(own as usize) {
+            self.expand(own, packed);
+            own += 1;
+        }
+    }
+
+    fn expand(&mut self, own: u32, packed: u32) {
+        let encounters = self.encounters;
+        let here = &encounters[(packed >> 18) as usize];
+        let matching = Matching::of(packed);
+        let left_lone = here.left_set & !matching.left_matched;
+        let right_lone = here.right_set & !matching.right_matched;
+        let unheard = |(left, right): &(Bundle, Bundle)| {
+            right.local_count > 0 && left_lone & !left.known_set != 0
+                || left.local_count > 0 && right_lone & !right.known_set != 0
+        };
+        self.attacks.clear();
+        self.attacks.decided = here.marks_differ || here.tags.iter().any(unheard);
+        for (left, right) in &here.tags {
+            self.fresh_meets_fresh(own, &matching, left, right);
+            self.known_meets_known(own, &matching, left, right);
+            self.left_known_meets_local(own, &matching, left, right, left_lone);
+            self.right_known_meets_local(own, &matching, left, right, right_lone);
+        }
+        let rounds = match (here.marks_differ, self.attacks.decided) {
+            (true, _) => 0,
+            (false, true) => 1,
+            (false, false) => NEVER_LOST,
+        };
+        self.rounds.push(rounds);
+        if rounds == NEVER_LOST {
+            self.keep_attacks(own);
+        }
+    }
+
+    fn keep_attacks(&mut self, own: u32) {
+        let begin = self.graph.targets.len() as u32;
+        for &end in &self.attacks.ends {
+            self.graph.owners.push(own);
+            self.graph.ends.push(begin + end);
+        }
+        self.graph.targets.extend_from_slice(&self.attacks.targets);
+    }
+
+    /// Packed positions become dense numbers, all in one go, so that the
+    /// cache misses can overlap.
+    fn number_grid(&mut self) {
+        for cell in &mut self.grid {
+            *cell = self.reached.number(*cell);
+        }
+    }
+
+    /// A number that neither reader holds.
+    fn fresh_meets_fresh(&mut self, own: u32, m: &Matching, left: &Bundle, right: &Bundle) {
+        self.grid.clear();
+        for l in &left.fresh {
+            let fields = m.without_left(m.packed, l.register);
+            for r in &right.fresh {
+                self.grid.push(m.after(l, r, m.without_right(fields, r.register)));
+            }
+        }
+        self.number_grid();
+        let width = right.fresh.len();
+        for (row, l) in left.fresh.iter().enumerate() {
+            let cells = &self.grid[row * width..(row + 1) * width];
+            let replies = cells.iter().zip(&right.fresh);
+            let fitting = replies.filter(|(_, r)| l.is_global || !r.is_global);
+            self.attacks.add(own, fitting.map(|(&target, _)| target));
+        }
+        for (column, r) in right.fresh.iter().enumerate() {
+            let cells = self.grid.iter().skip(column).step_by(width);
+            let replies = cells.zip(&left.fresh);
+            let fitting = replies.filter(|(_, l)| r.is_global || !l.is_global);
+            self.attacks.add(own, fitting.map(|(&target, _)| target));
+        }
+    }
+
+    /// A number that both readers hold.
+    fn known_meets_known(&mut self, own: u32, m: &Matching, left: &Bundle, right: &Bundle) {
+        self.couples.clear();
+        for l in &left.known {
+            let partner = m.of_left[l.register as usize];
+            if partner == 0 {
+                continue;
+            }
+            let begin = self.couples.len();
+            for (column, r) in right.known.iter().enumerate() {
+                if r.register == partner {
+                    let target = self.reached.number(m.after(l, r, m.packed));
+                    self.couples.push((column, target));
+                }
+            }
+            self.attacks.add(own, self.couples[begin..].iter().map(|couple| couple.1));
+        }
+        for (column, r) in right.known.iter().enumerate() {
+            if m.of_right[r.register as usize] != 0 {
+                let fitting = self.couples.iter().filter(|couple| couple.0 == column);
+                self.attacks.add(own, fitting.map(|couple| couple.1));
+            }
+        }
+    }
+
+    /// A number that only the left reader holds: the left reader attacks
+    /// with a known edge, or the right one with a locally fresh edge.
+    fn left_known_meets_local(
+        &mut self,
+        own: u32,
+        m: &Matching,
+        left: &Bundle,
+        right: &Bundle,
+        unmatched: u8,
+    ) {
+        if unmatched & left.known_set == 0 {
+            return;
+        }
+        self.grid.clear();
+        for l in &left.known {
+            for r in right.fresh.iter().filter(|r| !r.is_global && holds(unmatched, l.register)) {
+                let fields = m.without_right(m.packed, r.register);
+                self.grid.push(m.after(l, r, fields));
+            }
+        }
+        self.number_grid();
+        self.attack_lone_known(own, &left.known, unmatched, right.local_count);
+    }
+
+    /// The same for a number that only the right reader holds.
+    fn right_known_meets_local(
+        &mut self,
+        own: u32,
+        m: &Matching,
+        left: &Bundle,
+        right: &Bundle,
+        unmatched: u8,
+    ) {
+        if unmatched & right.known_set == 0 {
+            return;
+        }
+        self.grid.clear();
+        for r in &right.known {
+            for l in left.fresh.iter().filter(|l| !l.is_global && holds(unmatched, r.register)) {
+                let fields = m.without_left(m.packed, l.register);
+                self.grid.push(m.after(l, r, fields));
+            }
+        }
+        self.number_grid();
+        self.attack_lone_known(own, &right.known, unmatched, left.local_count);
+    }
+
+    /// The grid has a row for each known edge of an unmatched register and a
+    /// column for each locally fresh edge of the other side. A known edge is
+    /// replied to by its whole row; a locally fresh edge that takes the
+    /// number of a register, by the rows of this register.
+    fn attack_lone_known(&mut self, own: u32, known: &[Step], unmatched: u8, width: usize) {
+        let rows = || known.iter().filter(|step| holds(unmatched, step.register)).enumerate();
+        for (row, _) in rows() {
+            let cells = &self.grid[row * width..(row + 1) * width];
+            self.attacks.add(own, cells.iter().copied());
+        }
+        let with_edges = known.iter().fold(0, |set, step| set | 1 << (step.register - 1));
+        for held in registers_of(unmatched & with_edges) {
+            for column in 0..width {
+                let fitting = rows().filter(|(_, step)| step.register == held);
+                let grid = &self.grid;
+                self.attacks.add(own, fitting.map(|(row, _)| grid[row * width + column]));
+            }
+        }
+    }
+}
+
+fn holds(set: u8, register: u8) -> bool {
+    set >> (register - 1) & 1 == 1
+}
+
+fn registers_of(mut set: u8) -> impl Iterator<Item = u8> {
+    std::iter::from_fn(move || {
+        if set == 0 {
+            return None;
+        }
+        let register = set.trailing_zeros() as u8 + 1;
+        set &= set - 1;
+        Some(register)
+    })
+}
+
+const NONE: u32 = u32::MAX;
+
+/// The predecessor lists. Every attack waits at one of the positions that
+/// its replies lead to; when that is lost, it moves on to one that is not.
+/// So an attack stands in one list only, not in one for each reply.
+struct Waiting {
+    /// The first attack that waits at a position.
+    first: Vec<u32>,
+    /// The attack that waits behind an attack.
+    next: Vec<u32>,
+}
+
+impl Waiting {
+    fn new(rounds: &[u32], graph: &AttackGraph) -> Waiting {
+        let attacks = graph.owners.len();
+        let mut waiting = Waiting { first: vec![NONE; rounds.len()], next: vec![NONE; attacks] };
+        for attack in 0..attacks {
+            let latest = graph.targets_of(attack).iter().max_by_key(|&&t| rounds[t as usize]);
+            waiting.put(attack as u32, *latest.expect("attacks here have replies"));
+        }
+        waiting
+    }
+
+    fn put(&mut self, attack: u32, position: u32) {
+        self.next[attack as usize] = self.first[position as usize];
+        self.first[position as usize] = attack;
+    }
+}
+
+/// Works through the lost positions in order of rounds. An attack wins when
+/// no reply is left that is not lost; its owner is then lost one round later.
+fn settle(rounds: &mut [u32], graph: &AttackGraph) {
+    let lost_in = |rounds: &[u32], n: u32| -> Vec<u32> {
+        (0..rounds.len() as u32).filter(|&p| rounds[p as usize] == n).collect()
+    };
+    let mut current = lost_in(rounds, 0);
+    let mut next = lost_in(rounds, 1);
+    if graph.owners.is_empty() || current.is_empty() && next.is_empty() {
+        return;
+    }
+    let mut waiting = Waiting::new(rounds, graph);
+    let mut round = 0;
+    while !current.is_empty() || !next.is_empty() {
+        for &position in &current {
+            let mut attack = waiting.first[position as usize];
+            while attack != NONE {
+                let behind = waiting.next[attack as usize];
+                let owner = graph.owners[attack as usize] as usize;
+                if rounds[owner] == NEVER_LOST {
+                    let mut targets = graph.targets_of(attack as usize).iter();
+                    match targets.find(|&&t| rounds[t as usize] > round) {
+                        Some(&later) => waiting.put(attack, later),
+                        None => {
+                            rounds[owner] = round + 1;
+                            next.push(owner as u32);
+                        }
+                    }
+                }
+                attack = behind;
+            }
+        }
+        round += 1;
+        current.clear();
+        std::mem::swap(&mut current, &mut next);
+    }
+}
+
+/// Packed positions reached, with rounds, rising.
+pub fn settled_positions(task: &Task) -> Vec<(u32, u32)> {
+    let mut encounters = vec![Encounter::default(); 256];
+    for left in 0..task.left.states.len() as u8 {
+        for right in 0..task.right.states.len() as u8 {
+            encounters[(left as usize) << 4 | right as usize] = encounter(task, left, right);
+        }
+    }
+    let mut explorer = Explorer {
+        encounters: &encounters,
+        reached: Reached { packed: Vec::new(), numbers: Numbers::default() },
+        rounds: Vec::new(),
+        graph: AttackGraph::default(),
+        attacks: Attacks::default(),
+        grid: Vec::new(),
+        couples: Vec::new(),
+    };
+    explorer.run(pack(&Position::start(task)));
+    let Explorer { reached, mut rounds, graph, .. } = explorer;
+    drop(reached.numbers);
+    settle(&mut rounds, &graph);
+    drop(graph);
+    let mut entries: Vec<(u32, u32)> = reached.packed.into_iter().zip(rounds).collect();
+    entries.sort_unstable();
+    entries
+}
+
+pub fn solve(task: &Task) -> Solution {
+    let packed = settled_positions(task);
+    let entries = packed.into_iter().map(|(p, rounds)| (unpack(p), rounds)).collect();
+    Solution::new(task, entries)
+}

@@ -1,0 +1,83 @@
+//! The generator as a program.
+
+use reference::generate::families::{family, FAMILIES};
+use reference::generate::quota::{measure, measure_proposals, quota_table};
+use reference::generate::{item, item_of_kind, ItemKind};
+use reference::task;
+use std::io::Write;
+
+const USAGE: &str = "\
+usage: reference-generate item SEED INDEX [KIND]    one item's bytes to standard output
+       reference-generate items SEED COUNT DIR      items 0 to COUNT - 1 as files
+       reference-generate family NAME SIZE...       a family's task to standard output
+       reference-generate families                  names and sizes of the families
+       reference-generate quota SEED COUNT          counts and the quota table
+       reference-generate proposals SEED COUNT      what comes of proposed certificates
+KIND is small, near, chain, cover, guess, overwrite, reach or damaged.";
+
+fn main() {
+    let arguments: Vec<String> = std::env::args().skip(1).collect();
+    let words: Vec<&str> = arguments.iter().map(|a| a.as_str()).collect();
+    if let Err(message) = run(&words) {
+        eprintln!("{message}");
+        std::process::exit(2);
+    }
+}
+
+fn number(text: &str) -> Result<u64, String> {
+    text.parse().map_err(|_| format!("{text} is no number"))
+}
+
+fn put(bytes: &[u8]) -> Result<(), String> {
+    std::io::stdout().write_all(bytes).map_err(|e| e.to_string())
+}
+
+fn run(words: &[&str]) -> Result<(), String> {
+    match words {
+        ["item", seed, index] => put(&item(number(seed)?, number(index)?).bytes),
+        ["item", seed, index, kind] => {
+            let kind = ItemKind::from_name(kind).ok_or(USAGE)?;
+            put(&item_of_kind(number(seed)?, number(index)?, kind).bytes)
+        }
+        ["items", seed, count, directory] => items(number(seed)?, number(count)?, directory),
+        ["family", name, sizes @ ..] => {
+            let sizes: Result<Vec<u64>, String> = sizes.iter().map(|s| number(s)).collect();
+            let sizes: Vec<usize> = sizes?.into_iter().map(|s| s as usize).collect();
+            put(&task::write(&family(name, &sizes)?))
+        }
+        ["families"] => {
+            for (name, sizes, meaning) in FAMILIES {
+                println!("{name:<14} {sizes:<4} {meaning}");
+            }
+            Ok(())
+        }
+        ["quota", seed, count] => quota(number(seed)?, number(count)?),
+        ["proposals", seed, count] => {
+            print!("{}", measure_proposals(number(seed)?, number(count)?).table());
+            Ok(())
+        }
+        _ => Err(USAGE.to_string()),
+    }
+}
+
+fn items(seed: u64, count: u64, directory: &str) -> Result<(), String> {
+    std::fs::create_dir_all(directory).map_err(|e| e.to_string())?;
+    for index in 0..count {
+        let made = item(seed, index);
+        let path = format!("{directory}/{index:06}-{}.task", made.kind.name());
+        std::fs::write(path, made.bytes).map_err(|e| e.to_string())?;
+    }
+    Ok(())
+}
+
+fn quota(seed: u64, count: u64) -> Result<(), String> {
+    let tally = measure(seed, count);
+    print!("{}\n", tally.table());
+    let (table, met) = quota_table(&tally);
+    print!("{table}");
+    if met {
+        Ok(())
+    } else {
+        Err("quotas for 20,000 items are missed".to_string())
+    }
+}

@@ -1,0 +1,157 @@
+//! The plain comparer: reach everything, then settle round after round.
+
+use crate::certificate::{differ_certificate, equal_certificate};
+use crate::game::{attacks, replies, Position};
+use crate::model::*;
+use crate::task;
+use std::collections::BTreeMap;
+
+pub const ENTRY_LENGTH: usize = 12;
+pub const NEVER_LOST: u32 = u32::MAX;
+
+/// What a call returns, next to the table and the certificate buffer. After
+/// a refusal everything but its number is zero.
+#[derive(Clone, Copy, PartialEq, Eq, Debug, Default)]
+pub struct Answer {
+    pub refusal: u32,
+    pub verdict: u32,
+    pub positions: u32,
+    pub rounds: u32,
+    pub certificate_length: u32,
+}
+
+impl Answer {
+    pub fn refused(refusal: Refusal) -> Answer {
+        Answer { refusal: refusal.0, ..Answer::default() }
+    }
+}
+
+/// Everything there is to know about a task that is not turned back.
+#[derive(Clone, PartialEq, Eq, Debug)]
+pub struct Solution {
+    pub verdict: Verdict,
+    /// 0 for EQUAL.
+    pub rounds: u32,
+    /// The positions reached, rising, with rounds or NEVER_LOST.
+    pub entries: Vec<(Position, u32)>,
+    pub certificate: Vec<u8>,
+}
+
+impl Solution {
+    /// Puts a solution together from the settled positions.
+    pub fn new(task: &Task, entries: Vec<(Position, u32)>) -> Solution {
+        let rounds_of = |p: &Position| {
+            let place = entries.binary_search_by(|(q, _)| q.cmp(p)).expect("a reached position");
+            Some(entries[place].1).filter(|&n| n != NEVER_LOST)
+        };
+        let start_rounds = rounds_of(&Position::start(task));
+        let certificate = match start_rounds {
+            Some(_) => differ_certificate(task, rounds_of),
+            None => {
+                let kept = entries.iter().filter(|(_, n)| *n == NEVER_LOST);
+                equal_certificate(kept.map(|(p, _)| *p))
+            }
+        };
+        let verdict = if start_rounds.is_some() { Verdict::Differ } else { Verdict::Equal };
+        Solution { verdict, rounds: start_rounds.unwrap_or(0), entries, certificate }
+    }
+
+    /// The answer for a lent table and buffer, which are filled.
+    pub fn deliver(&self, table: &mut [u8], buffer: &mut [u8]) -> Answer {
+        table.fill(0);
+        if self.entries.len() > table.len() / ENTRY_LENGTH {
+            return Answer::refused(Refusal(11));
+        }
+        if self.certificate.len() > buffer.len() {
+            return Answer::refused(Refusal(12));
+        }
+        for (entry, (position, rounds)) in table.chunks_mut(ENTRY_LENGTH).zip(&self.entries) {
+            entry[..8].copy_from_slice(&position.bytes());
+            entry[8..].copy_from_slice(&rounds.to_be_bytes());
+        }
+        buffer[..self.certificate.len()].copy_from_slice(&self.certificate);
+        Answer {
+            refusal: 0,
+            verdict: self.verdict.number(),
+            positions: self.entries.len() as u32,
+            rounds: self.rounds,
+            certificate_length: self.certificate.len() as u32,
+        }
+    }
+}
+
+/// For each position reached, for each of its attacks, where the replies
+/// lead.
+type Reach = BTreeMap<Position, Vec<Vec<Position>>>;
+
+/// For each attack of the position, where its replies lead.
+pub fn moves(task: &Task, position: &Position) -> Vec<Vec<Position>> {
+    let leads = |a| replies(task, position, a).iter().map(|r| r.leads_to).collect();
+    attacks(task, position).into_iter().map(leads).collect()
+}
+
+/// Positions whose end marks differ are expanded like all others: the
+/// papers make no exception for them.
+fn reach(starts: &[Position], moves: impl Fn(&Position) -> Vec<Vec<Position>>) -> Reach {
+    let mut reached = Reach::new();
+    let mut open = starts.to_vec();
+    while let Some(position) = open.pop() {
+        if reached.contains_key(&position) {
+            continue;
+        }
+        let targets = moves(&position);
+        open.extend(targets.iter().flatten().filter(|p| !reached.contains_key(p)));
+        reached.insert(position, targets);
+    }
+    reached
+}
+
+/// Rounds of every position of `reached`, by the papers' induction on the
+/// number of rounds. It is over as soon as one round adds nothing.
+fn settle(task: &Task, reached: &Reach) -> Vec<(Position, u32)> {
+    let place: BTreeMap<Position, usize> =
+        reached.keys().enumerate().map(|(n, p)| (*p, n)).collect();
+    let moves: Vec<Vec<Vec<usize>>> = reached
+        .values()
+        .map(|list| list.iter().map(|ts| ts.iter().map(|t| place[t]).collect()).collect())
+        .collect();
+    let mut rounds: Vec<u32> =
+        reached.keys().map(|p| if p.end_marks_differ(task) { 0 } else { NEVER_LOST }).collect();
+    for round in 1.. {
+        let lost = |p: &usize| rounds[*p] != NEVER_LOST;
+        let newly: Vec<usize> = (0..moves.len())
+            .filter(|p| !lost(p) && moves[*p].iter().any(|targets| targets.iter().all(lost)))
+            .collect();
+        if newly.is_empty() {
+            break;
+        }
+        for p in newly {
+            rounds[p] = round;
+        }
+    }
+    reached.keys().copied().zip(rounds).collect()
+}
+
+/// The positions reached from these legal positions, rising, with rounds.
+pub fn settle_from(task: &Task, starts: &[Position]) -> Vec<(Position, u32)> {
+    settle(task, &reach(starts, |p| moves(task, p)))
+}
+
+/// The same with other rules than the papers' (for tests of the tests).
+pub fn settle_by(
+    task: &Task,
+    rules: impl Fn(&Position) -> Vec<Vec<Position>>,
+) -> Vec<(Position, u32)> {
+    settle(task, &reach(&[Position::start(task)], rules))
+}
+
+pub fn solve(task: &Task) -> Solution {
+    Solution::new(task, settle_from(task, &[Position::start(task)]))
+}
+
+pub fn compare(bytes: &[u8], table: &mut [u8], buffer: &mut [u8]) -> Answer {
+    match task::read(bytes) {
+        Err(refusal) => Answer::refused(refusal),
+        Ok(task) => solve(&task).deliver(table, buffer),
+    }
+}

@@ -1,0 +1,212 @@
+//! Symbolic positions, attacks and replies.
+
+use crate::model::*;
+
+/// Two states and the partners of left registers 1 to 6 (0 is none). The
+/// derived order is the order of the eight position bytes.
+#[derive(Clone, Copy, PartialEq, Eq, PartialOrd, Ord, Hash, Debug)]
+pub struct Position {
+    pub left: u8,
+    pub right: u8,
+    pub partners: [u8; MAX_REGISTERS],
+}
+
+impl Position {
+    pub fn start(task: &Task) -> Position {
+        let mut partners = [0; MAX_REGISTERS];
+        for &(left, right) in &task.pairs {
+            partners[left as usize - 1] = right;
+        }
+        Position { left: task.left.start, right: task.right.start, partners }
+    }
+
+    pub fn bytes(&self) -> [u8; 8] {
+        let mut bytes = [0; 8];
+        bytes[0] = self.left;
+        bytes[1] = self.right;
+        bytes[2..].copy_from_slice(&self.partners);
+        bytes
+    }
+
+    pub fn from_bytes(bytes: &[u8]) -> Position {
+        let mut partners = [0; MAX_REGISTERS];
+        partners.copy_from_slice(&bytes[2..8]);
+        Position { left: bytes[0], right: bytes[1], partners }
+    }
+
+    pub fn state(&self, side: Side) -> u8 {
+        match side {
+            Side::Left => self.left,
+            Side::Right => self.right,
+        }
+    }
+
+    /// The other side's register with the same number, if there is one.
+    pub fn partner(&self, side: Side, register: u8) -> Option<u8> {
+        match side {
+            Side::Left => Some(self.partners[register as usize - 1]).filter(|&p| p != 0),
+            Side::Right => {
+                let place = self.partners.iter().position(|&p| p == register)?;
+                Some(place as u8 + 1)
+            }
+        }
+    }
+
+    fn part(&mut self, side: Side, register: u8) {
+        match side {
+            Side::Left => self.partners[register as usize - 1] = 0,
+            Side::Right => {
+                if let Some(left) = self.partner(Side::Right, register) {
+                    self.partners[left as usize - 1] = 0;
+                }
+            }
+        }
+    }
+
+    pub fn is_legal(&self, task: &Task) -> bool {
+        let states_exist = (self.left as usize) < task.left.states.len()
+            && (self.right as usize) < task.right.states.len();
+        states_exist && self.partners_are_legal(task)
+    }
+
+    fn partners_are_legal(&self, task: &Task) -> bool {
+        let left_set = task.left.set(self.left);
+        let right_set = task.right.set(self.right);
+        let mut used = RegisterSet::default();
+        for (index, &right) in self.partners.iter().enumerate() {
+            if right == 0 {
+                continue;
+            }
+            let held = left_set.contains(index as u8 + 1) && right_set.contains(right);
+            if !held || used.contains(right) {
+                return false;
+            }
+            used = used.with(right);
+        }
+        true
+    }
+
+    pub fn end_marks_differ(&self, task: &Task) -> bool {
+        task.left.end_mark(self.left) != task.right.end_mark(self.right)
+    }
+}
+
+pub const CASE_KNOWN: u8 = 0;
+pub const CASE_SEEN: u8 = 7;
+pub const CASE_NEW: u8 = 8;
+
+/// The derived order is the order "side, edge, case".
+#[derive(Clone, Copy, PartialEq, Eq, PartialOrd, Ord, Hash, Debug)]
+pub struct Attack {
+    pub side: Side,
+    pub edge: u8,
+    pub case: u8,
+}
+
+/// The id cases of an edge of `side` in this position, rising.
+fn cases(task: &Task, position: &Position, side: Side, edge: &Edge) -> Vec<u8> {
+    match edge.kind {
+        Kind::Known => vec![CASE_KNOWN],
+        Kind::GloballyFresh => vec![CASE_NEW],
+        Kind::LocallyFresh => {
+            let other = side.other();
+            let held = task.model(other).set(position.state(other));
+            let mut list: Vec<u8> =
+                held.iter().filter(|&j| position.partner(other, j).is_none()).collect();
+            list.extend([CASE_SEEN, CASE_NEW]);
+            list
+        }
+    }
+}
+
+/// All attacks of a position, in order of side, edge, case.
+pub fn attacks(task: &Task, position: &Position) -> Vec<Attack> {
+    let mut list = Vec::new();
+    for side in Side::BOTH {
+        for (number, edge) in task.model(side).edges_from(position.state(side)) {
+            for case in cases(task, position, side, edge) {
+                list.push(Attack { side, edge: number, case });
+            }
+        }
+    }
+    list
+}
+
+/// Whether an attack, given by its three bytes, exists in the position.
+pub fn existing_attack(
+    task: &Task,
+    position: &Position,
+    side: u8,
+    edge: u8,
+    case: u8,
+) -> Option<Attack> {
+    let side = Side::from_number(side)?;
+    let found = task.model(side).edges.get(edge as usize)?;
+    let starts_here = found.from == position.state(side);
+    let exists = starts_here && cases(task, position, side, found).contains(&case);
+    exists.then_some(Attack { side, edge, case })
+}
+
+/// Whether an edge of the other side takes the attack's number.
+fn answers(position: &Position, attack: Attack, edge: &Edge, reply: &Edge) -> bool {
+    let known_of = |j: u8| reply.kind == Kind::Known && reply.register == j;
+    if edge.kind == Kind::Known {
+        return match position.partner(attack.side, edge.register) {
+            Some(j) => known_of(j),
+            // Only the attacker holds the number, so it is fresh to the
+            // other reader, but it is in the history.
+            None => reply.kind == Kind::LocallyFresh,
+        };
+    }
+    match attack.case {
+        CASE_SEEN => reply.kind == Kind::LocallyFresh,
+        CASE_NEW => reply.kind.is_fresh(),
+        j => known_of(j),
+    }
+}
+
+/// The position after attack and reply.
+fn after(task: &Task, position: &Position, attack: Attack, edge: &Edge, reply: &Edge) -> Position {
+    let (side, other) = (attack.side, attack.side.other());
+    let mut next = *position;
+    if edge.kind.is_fresh() {
+        next.part(side, edge.register);
+    }
+    if reply.kind.is_fresh() {
+        next.part(other, reply.register);
+    }
+    let (left, right) = match side {
+        Side::Left => (edge, reply),
+        Side::Right => (reply, edge),
+    };
+    next.partners[left.register as usize - 1] = right.register;
+    next.left = left.to;
+    next.right = right.to;
+    let (left_set, right_set) = (task.left.set(left.to), task.right.set(right.to));
+    for (index, partner) in next.partners.iter_mut().enumerate() {
+        if !left_set.contains(index as u8 + 1) || !right_set.contains(*partner) {
+            *partner = 0;
+        }
+    }
+    next
+}
+
+/// A reply: the number of its edge, and where the round then leads.
+#[derive(Clone, Copy, PartialEq, Eq, Debug)]
+pub struct Reply {
+    pub edge: u8,
+    pub leads_to: Position,
+}
+
+/// All replies to an attack that exists, by edge number.
+pub fn replies(task: &Task, position: &Position, attack: Attack) -> Vec<Reply> {
+    let other = attack.side.other();
+    let edge = &task.model(attack.side).edges[attack.edge as usize];
+    let mut list = Vec::new();
+    for (number, reply) in task.model(other).edges_from(position.state(other)) {
+        if reply.tag == edge.tag && answers(position, attack, edge, reply) {
+            list.push(Reply { edge: number, leads_to: after(task, position, attack, edge, reply) });
+        }
+    }
+    list
+}

@@ -1,0 +1,119 @@
+//! The seeded generator. Item `index` of a seed depends on nothing else.
+
+pub mod chains;
+pub mod covers;
+pub mod damage;
+pub mod families;
+pub mod guesses;
+pub mod models;
+pub mod near;
+pub mod overwrites;
+pub mod proposals;
+pub mod quota;
+
+use crate::model::Task;
+use crate::random::Random;
+use crate::task;
+
+#[derive(Clone, Copy, PartialEq, Eq, PartialOrd, Ord, Debug)]
+pub enum ItemKind {
+    /// Two unrelated small models.
+    Small,
+    /// A model and a renamed, often altered copy.
+    Near,
+    /// Differences that show only after many rounds.
+    Chain,
+    /// Readers that take every number, with unlike register sets.
+    Cover,
+    /// A guess about a position that has to be taken back.
+    Guess,
+    /// Registers that are overwritten and then looked at.
+    Overwrite,
+    /// Many positions.
+    Reach,
+    /// A byte string that is usually turned back.
+    Damaged,
+}
+
+impl ItemKind {
+    pub const ALL: [ItemKind; 8] = [
+        ItemKind::Small,
+        ItemKind::Near,
+        ItemKind::Chain,
+        ItemKind::Cover,
+        ItemKind::Guess,
+        ItemKind::Overwrite,
+        ItemKind::Reach,
+        ItemKind::Damaged,
+    ];
+
+    pub fn name(self) -> &'static str {
+        let names = ["small", "near", "chain", "cover", "guess", "overwrite", "reach", "damaged"];
+        names[self as usize]
+    }
+
+    pub fn from_name(name: &str) -> Option<ItemKind> {
+        ItemKind::ALL.into_iter().find(|k| k.name() == name)
+    }
+}
+
+#[derive(Clone, Debug)]
+pub struct Item {
+    pub kind: ItemKind,
+    pub bytes: Vec<u8>,
+}
+
+/// How often each kind of item is made, in parts of 100.
+const MIX: [(usize, ItemKind); 8] = [
+    (7, ItemKind::Small),
+    (27, ItemKind::Near),
+    (14, ItemKind::Chain),
+    (15, ItemKind::Cover),
+    (4, ItemKind::Guess),
+    (5, ItemKind::Overwrite),
+    (4, ItemKind::Reach),
+    (24, ItemKind::Damaged),
+];
+
+/// Kinds that make tasks which are not turned back by the reader.
+const VALID_MIX: [(usize, ItemKind); 7] = [MIX[0], MIX[1], MIX[2], MIX[3], MIX[4], MIX[5], MIX[6]];
+
+fn task_of_kind(random: &mut Random, kind: ItemKind) -> Task {
+    match kind {
+        ItemKind::Small | ItemKind::Damaged => near::unrelated(random),
+        ItemKind::Near => near::near_pair(random),
+        ItemKind::Chain => chains::chain_pair(random),
+        ItemKind::Cover => covers::cover_pair(random),
+        ItemKind::Guess => guesses::guess_pair(random),
+        ItemKind::Overwrite => overwrites::overwrite_pair(random),
+        ItemKind::Reach => covers::reach_pair(random),
+    }
+}
+
+pub fn item_of_kind(seed: u64, index: u64, kind: ItemKind) -> Item {
+    let mut random = Random::for_item(seed, index);
+    make(&mut random, kind)
+}
+
+fn make(random: &mut Random, kind: ItemKind) -> Item {
+    let bytes = match kind {
+        ItemKind::Damaged => {
+            let base = valid_task(random);
+            damage::damaged(random, &base)
+        }
+        _ => task::write(&task_of_kind(random, kind)),
+    };
+    Item { kind, bytes }
+}
+
+pub fn item(seed: u64, index: u64) -> Item {
+    let mut random = Random::for_item(seed, index);
+    let kind = random.weighted(&MIX);
+    make(&mut random, kind)
+}
+
+/// A task that the reader accepts.
+pub fn valid_task(random: &mut Random) -> Task {
+    let kind = random.weighted(&VALID_MIX);
+    task_of_kind(random, kind)
+}

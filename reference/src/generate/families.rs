@@ -1,0 +1,139 @@
+//! Named families for measurements, by name and sizes.
+
+use super::models::{set_of, tidy};
+use crate::model::*;
+
+/// Name, sizes it takes, what it is.
+pub const FAMILIES: &[(&str, &str, &str)] = &[
+    ("dearest", "R", "one state, R registers held, a locally fresh loop for each; DIFFER"),
+    ("dearest-equal", "R", "dearest with a known loop for each register too; EQUAL"),
+    ("ring", "S R", "S states, R registers held, locally fresh edges; large reach, DIFFER"),
+    ("ring-equal", "S R", "S states, R registers held, known and fresh edges; large reach, EQUAL"),
+    ("ring-late", "S R", "ring-equal with an end mark on one state of each side; many rounds"),
+    ("chain", "N", "N states in a row, end mark on the last of one side; N - 1 rounds"),
+    ("rings", "A B", "rings of A and B states, A > B coprime; A + B - 2 rounds if A = B + 1"),
+];
+
+pub fn family(name: &str, sizes: &[usize]) -> Result<Task, String> {
+    let fits = |limits: &[(usize, usize)]| {
+        sizes.len() == limits.len()
+            && sizes.iter().zip(limits).all(|(s, (low, high))| (low..=high).contains(&s))
+    };
+    match name {
+        "dearest" if fits(&[(0, 6)]) => Ok(dearest(sizes[0], false)),
+        "dearest-equal" if fits(&[(0, 6)]) => Ok(dearest(sizes[0], true)),
+        "ring" if fits(&[(1, 16), (1, 6)]) => Ok(ring(sizes[0], sizes[1], false)),
+        "ring-equal" if fits(&[(1, 16), (1, 6)]) => Ok(ring(sizes[0], sizes[1], true)),
+        "ring-late" if fits(&[(1, 16), (1, 6)]) => Ok(ring_late(sizes[0], sizes[1])),
+        "chain" if fits(&[(1, 16)]) => Ok(chain(sizes[0])),
+        "rings" if fits(&[(2, 16), (2, 16)]) => Ok(rings(sizes[0], sizes[1])),
+        _ => Err(format!("no family {name} with sizes {sizes:?}")),
+    }
+}
+
+fn first_registers(count: usize) -> Vec<u8> {
+    (1..=count as u8).collect()
+}
+
+fn uniform_states(count: usize, registers: usize) -> Vec<State> {
+    vec![State { set: set_of(&first_registers(registers)), end_mark: 0 }; count]
+}
+
+/// Both models have one state that holds all registers and a locally fresh
+/// loop with tag 0 for each; no pairs. With `known` there is a known loop
+/// with tag 0 for each register too, and so a reply to every attack.
+fn dearest(registers: usize, known: bool) -> Task {
+    let mut edges = Vec::new();
+    for register in first_registers(registers) {
+        let loop_of = |kind| Edge { from: 0, tag: 0, kind, register, to: 0 };
+        edges.push(loop_of(Kind::LocallyFresh));
+        if known {
+            edges.push(loop_of(Kind::Known));
+        }
+    }
+    let states = uniform_states(1, registers);
+    let mut model = Model { registers: registers as u8, start: 0, states, edges };
+    tidy(&mut model);
+    Task { left: model.clone(), right: model, pairs: Vec::new() }
+}
+
+/// A ring of `states` states that all hold the same registers. The left
+/// reader always steps on; the right one steps on or stays, so that every
+/// pair of states is reached. Which registers a state can write turns with
+/// the state, because 64 edges are not enough for all of them.
+///
+/// With locally fresh edges a number that only the other reader holds cannot
+/// be replied to; with globally fresh ones every attack has a reply.
+fn ring(states: usize, registers: usize, equal: bool) -> Task {
+    let kind = if equal { Kind::GloballyFresh } else { Kind::LocallyFresh };
+    let left = ring_model(states, registers, kind, |_| true);
+    let right = ring_model(states, registers, kind, |place| place % 2 == 0);
+    Task { left, right, pairs: Vec::new() }
+}
+
+/// The ring of equal readers, but for an end mark on the last state of each.
+/// The right reader can stay behind, so this shows, but it takes its time.
+fn ring_late(states: usize, registers: usize) -> Task {
+    let mut task = ring(states, registers, true);
+    task.left.states[states - 1].end_mark = 1;
+    task.right.states[states - 1].end_mark = 1;
+    task
+}
+
+fn ring_model(
+    states: usize,
+    registers: usize,
+    kind: Kind,
+    steps_on: impl Fn(usize) -> bool,
+) -> Model {
+    let per_state = (MAX_EDGES / states).min(registers);
+    let mut edges = Vec::new();
+    for from in 0..states {
+        for place in 0..per_state {
+            let register = ((from + place) % registers + 1) as u8;
+            let to = if steps_on(place) { (from + 1) % states } else { from };
+            edges.push(Edge { from: from as u8, tag: 0, kind, register, to: to as u8 });
+        }
+    }
+    let states = uniform_states(states, registers);
+    let mut model = Model { registers: registers as u8, start: 0, states, edges };
+    tidy(&mut model);
+    model
+}
+
+/// Known edges of register 1 through `states` states in a row or in a ring.
+fn known_path(states: usize, closed: bool) -> Model {
+    let steps = if closed { states } else { states - 1 };
+    let edges = (0..steps).map(|from| Edge {
+        from: from as u8,
+        tag: 0,
+        kind: Kind::Known,
+        register: 1,
+        to: ((from + 1) % states) as u8,
+    });
+    let mut model =
+        Model { registers: 1, start: 0, states: uniform_states(states, 1), edges: edges.collect() };
+    tidy(&mut model);
+    model
+}
+
+/// Two equal chains but for the end mark of the last state: one round fewer
+/// than there are states.
+pub fn chain(states: usize) -> Task {
+    let left = known_path(states, false);
+    let mut right = left.clone();
+    right.states[states - 1].end_mark = 1;
+    Task { left, right, pairs: vec![(1, 1)] }
+}
+
+/// Two rings, each with one end mark, on state B - 1. If A = B + 1, the
+/// words of end marks that the rings spell agree on A + B - 2 places, which
+/// is the most that two words of coprime periods A and B can agree on
+/// without being equal (Fine and Wilf).
+pub fn rings(long: usize, short: usize) -> Task {
+    let mut left = known_path(long, true);
+    let mut right = known_path(short, true);
+    left.states[(short - 1).min(long - 1)].end_mark = 1;
+    right.states[short - 1].end_mark = 1;
+    Task { left, right, pairs: vec![(1, 1)] }
+}

@@ -1,0 +1,327 @@
+//! Proposed certificates: right ones, damaged ones, and right ones that the
+//! comparer would not write.
+
+use crate::certificate::*;
+use crate::compare::{settle_from, Solution, NEVER_LOST};
+use crate::game::{attacks, replies, Attack, Position};
+use crate::model::*;
+use crate::random::Random;
+use std::collections::BTreeMap;
+
+#[derive(Clone, Copy, PartialEq, Eq, PartialOrd, Ord, Debug)]
+pub enum ProposalKind {
+    Right,
+    ByteAltered,
+    Cut,
+    Reordered,
+    TwoKinds,
+    /// More positions than the comparer lists, and right.
+    Larger,
+    MoreRounds,
+    /// An attack that does not exist, or does not win.
+    WrongAttack,
+    /// Another winning attack than the first, and right.
+    OtherAttack,
+    /// A list for the verdict that is not the task's.
+    OtherVerdict,
+    RecordMissing,
+    IllegalPosition,
+    Empty,
+    Noise,
+}
+
+impl ProposalKind {
+    pub const ALL: [ProposalKind; 14] = [
+        ProposalKind::Right,
+        ProposalKind::ByteAltered,
+        ProposalKind::Cut,
+        ProposalKind::Reordered,
+        ProposalKind::TwoKinds,
+        ProposalKind::Larger,
+        ProposalKind::MoreRounds,
+        ProposalKind::WrongAttack,
+        ProposalKind::OtherAttack,
+        ProposalKind::OtherVerdict,
+        ProposalKind::RecordMissing,
+        ProposalKind::IllegalPosition,
+        ProposalKind::Empty,
+        ProposalKind::Noise,
+    ];
+
+    pub fn name(self) -> &'static str {
+        [
+            "right",
+            "byte-altered",
+            "cut",
+            "reordered",
+            "two-kinds",
+            "larger",
+            "more-rounds",
+            "wrong-attack",
+            "other-attack",
+            "other-verdict",
+            "record-missing",
+            "illegal-position",
+            "empty",
+            "noise",
+        ][self as usize]
+    }
+
+    /// Whether the checker has to accept what is made under this name.
+    pub fn is_right(self) -> bool {
+        use ProposalKind::*;
+        matches!(self, Right | Larger | MoreRounds | OtherAttack)
+    }
+}
+
+/// A kind 17 list before it is written.
+type LostList = BTreeMap<Position, (Option<Attack>, u32)>;
+
+fn lost_bytes(list: &LostList) -> Vec<u8> {
+    list.iter().flat_map(|(p, (attack, rounds))| lost_record(p, *attack, *rounds)).collect()
+}
+
+fn record_length(certificate: &[u8]) -> usize {
+    if certificate[0] == KEPT {
+        KEPT_LENGTH
+    } else {
+        LOST_LENGTH
+    }
+}
+
+fn cut_records(certificate: &[u8]) -> Vec<Vec<u8>> {
+    certificate.chunks(record_length(certificate)).map(|r| r.to_vec()).collect()
+}
+
+pub fn random_kind(random: &mut Random) -> ProposalKind {
+    *random.pick(&ProposalKind::ALL)
+}
+
+/// A proposed certificate of this kind for a task and its solution. Where a
+/// kind makes no sense for the verdict, the right certificate comes back.
+pub fn proposal(
+    random: &mut Random,
+    task: &Task,
+    solution: &Solution,
+    kind: ProposalKind,
+) -> Vec<u8> {
+    let right = &solution.certificate;
+    match kind {
+        ProposalKind::Right => right.clone(),
+        ProposalKind::ByteAltered => byte_altered(random, right),
+        ProposalKind::Cut => right[..random.below(right.len())].to_vec(),
+        ProposalKind::Reordered => reordered(random, right),
+        ProposalKind::TwoKinds => two_kinds(random, right),
+        ProposalKind::Larger => larger(random, task, solution),
+        ProposalKind::MoreRounds => more_rounds(random, task, solution),
+        ProposalKind::WrongAttack => wrong_attack(random, right),
+        ProposalKind::OtherAttack => match solution.verdict {
+            Verdict::Equal => larger(random, task, solution),
+            Verdict::Differ => lost_bytes(&other_attacks(random, task, &solution.entries)),
+        },
+        ProposalKind::OtherVerdict => other_verdict(random, task, solution),
+        ProposalKind::RecordMissing => record_missing(random, right),
+        ProposalKind::IllegalPosition => illegal_position(random, right),
+        ProposalKind::Empty => Vec::new(),
+        ProposalKind::Noise => noise(random),
+    }
+}
+
+fn byte_altered(random: &mut Random, right: &[u8]) -> Vec<u8> {
+    let mut bytes = right.to_vec();
+    let place = random.below(bytes.len());
+    bytes[place] = match random.below(3) {
+        0 => bytes[place].wrapping_add(1),
+        1 => bytes[place].wrapping_sub(1),
+        _ => bytes[place] ^ random.between(1, 255) as u8,
+    };
+    bytes
+}
+
+/// Two records exchanged, or one written twice.
+fn reordered(random: &mut Random, right: &[u8]) -> Vec<u8> {
+    let mut list = cut_records(right);
+    let place = random.below(list.len());
+    if list.len() == 1 || random.chance(30) {
+        let again = list[place].clone();
+        list.insert(place, again);
+    } else {
+        let other = (place + random.between(1, list.len() - 1)) % list.len();
+        list.swap(place, other);
+    }
+    list.concat()
+}
+
+fn two_kinds(random: &mut Random, right: &[u8]) -> Vec<u8> {
+    let mut list = cut_records(right);
+    let place = random.below(list.len());
+    let position = Position::from_bytes(&list[place][1..9]);
+    list[place] = match list[place][0] {
+        KEPT => lost_record(&position, None, 0),
+        _ => kept_record(&position),
+    };
+    // A list of one record has one kind still; add the record it had.
+    if list.len() == 1 {
+        list.push(right.to_vec());
+    }
+    list.concat()
+}
+
+/// A legal position, drawn at random.
+fn random_position(random: &mut Random, task: &Task) -> Position {
+    let left = random.below(task.left.states.len()) as u8;
+    let right = random.below(task.right.states.len()) as u8;
+    let mut free: Vec<u8> = task.right.set(right).iter().collect();
+    random.shuffle(&mut free);
+    let mut partners = [0; MAX_REGISTERS];
+    for register in task.left.set(left).iter() {
+        if random.chance(60) {
+            partners[register as usize - 1] = free.pop().unwrap_or(0);
+        }
+    }
+    Position { left, right, partners }
+}
+
+/// The start, some further legal positions, and all that is reached.
+fn wider_reach(random: &mut Random, task: &Task) -> Vec<(Position, u32)> {
+    let mut starts = vec![Position::start(task)];
+    for _ in 0..random.between(1, 6) {
+        starts.push(random_position(random, task));
+    }
+    settle_from(task, &starts)
+}
+
+/// A bisimulation, or an attack list, over more positions than needed.
+fn larger(random: &mut Random, task: &Task, solution: &Solution) -> Vec<u8> {
+    let entries = wider_reach(random, task);
+    match solution.verdict {
+        Verdict::Equal => kept_bytes(&entries, |rounds| rounds == NEVER_LOST),
+        Verdict::Differ => lost_bytes(&all_lost(random, task, &entries)),
+    }
+}
+
+fn kept_bytes(entries: &[(Position, u32)], wanted: impl Fn(u32) -> bool) -> Vec<u8> {
+    let kept = entries.iter().filter(|(_, rounds)| wanted(*rounds));
+    equal_certificate(kept.map(|(p, _)| *p))
+}
+
+/// Some attack of the position whose replies are all lost sooner.
+fn winning_attack(
+    random: &mut Random,
+    task: &Task,
+    rounds_of: &BTreeMap<Position, u32>,
+    position: &Position,
+) -> Option<Attack> {
+    let rounds = rounds_of[position];
+    if rounds == 0 {
+        return None;
+    }
+    let wins =
+        |a: &Attack| replies(task, position, *a).iter().all(|r| rounds_of[&r.leads_to] < rounds);
+    let winning: Vec<Attack> = attacks(task, position).into_iter().filter(wins).collect();
+    Some(*random.pick(&winning))
+}
+
+fn all_lost(random: &mut Random, task: &Task, entries: &[(Position, u32)]) -> LostList {
+    let rounds_of: BTreeMap<Position, u32> = entries.iter().copied().collect();
+    let mut list = LostList::new();
+    for &(position, rounds) in entries.iter().filter(|(_, r)| *r != NEVER_LOST) {
+        let attack = winning_attack(random, task, &rounds_of, &position);
+        list.insert(position, (attack, rounds));
+    }
+    list
+}
+
+/// As the comparer's list, but with any winning attack.
+fn other_attacks(random: &mut Random, task: &Task, entries: &[(Position, u32)]) -> LostList {
+    let rounds_of: BTreeMap<Position, u32> = entries.iter().copied().collect();
+    let mut list = LostList::new();
+    let mut open = vec![Position::start(task)];
+    while let Some(position) = open.pop() {
+        if list.contains_key(&position) {
+            continue;
+        }
+        let attack = winning_attack(random, task, &rounds_of, &position);
+        list.insert(position, (attack, rounds_of[&position]));
+        if let Some(attack) = attack {
+            open.extend(replies(task, &position, attack).iter().map(|r| r.leads_to));
+        }
+    }
+    list
+}
+
+/// Rounds made larger in a way that keeps "fewer" as it was.
+fn more_rounds(random: &mut Random, task: &Task, solution: &Solution) -> Vec<u8> {
+    if solution.verdict == Verdict::Equal {
+        return solution.certificate.clone();
+    }
+    let mut list = other_attacks(random, task, &solution.entries);
+    let factor = random.between(1, 1000) as u32;
+    let offset = *random.pick(&[0, 1, 255, 65_536, u32::MAX - 1_000_000]);
+    for (_, rounds) in list.values_mut().filter(|(_, rounds)| *rounds > 0) {
+        *rounds = *rounds * factor + offset;
+    }
+    lost_bytes(&list)
+}
+
+/// Changes side, edge, case or rounds of one record of an attack list.
+fn wrong_attack(random: &mut Random, right: &[u8]) -> Vec<u8> {
+    if right[0] == KEPT {
+        return byte_altered(random, right);
+    }
+    let mut list = cut_records(right);
+    let record = &mut list[random.below(right.len() / LOST_LENGTH)];
+    match random.below(5) {
+        0 => record[9] = *random.pick(&[0, 1, 2, 3, 255]),
+        1 => record[10] = *random.pick(&[0, 1, 2, 3, 63, 64, 255]),
+        2 => record[11] = *random.pick(&[0, 1, 2, 3, 4, 5, 6, 7, 8, 9, 255]),
+        3 => record[15] = record[15].wrapping_sub(1),
+        _ => record[9..].fill(0),
+    }
+    list.concat()
+}
+
+fn other_verdict(random: &mut Random, task: &Task, solution: &Solution) -> Vec<u8> {
+    match solution.verdict {
+        Verdict::Differ => {
+            let whole = random.chance(50);
+            kept_bytes(&solution.entries, |rounds| whole || rounds == NEVER_LOST)
+        }
+        Verdict::Equal => {
+            let mut list = LostList::new();
+            for &(position, _) in &solution.entries {
+                let all = attacks(task, &position);
+                let attack = (!all.is_empty()).then(|| *random.pick(&all));
+                list.insert(position, (attack, random.between(0, 3) as u32));
+            }
+            lost_bytes(&list)
+        }
+    }
+}
+
+fn record_missing(random: &mut Random, right: &[u8]) -> Vec<u8> {
+    let mut list = cut_records(right);
+    list.remove(random.below(list.len()));
+    list.concat()
+}
+
+fn illegal_position(random: &mut Random, right: &[u8]) -> Vec<u8> {
+    let mut list = cut_records(right);
+    let place = random.below(list.len());
+    let record = &mut list[place];
+    match random.below(3) {
+        0 => record[random.between(1, 2)] = random.between(3, 255) as u8,
+        1 => record[random.between(3, 8)] = random.between(1, 7) as u8,
+        _ => record[3..9].fill(random.between(1, 6) as u8),
+    }
+    list.concat()
+}
+
+fn noise(random: &mut Random) -> Vec<u8> {
+    let length = random.between(1, 40);
+    let mut bytes = random.bytes(length);
+    if random.chance(70) {
+        bytes[0] = *random.pick(&[KEPT, LOST]);
+    }
+    bytes
+}

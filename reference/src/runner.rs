@@ -1,0 +1,404 @@
+//! The differential runner: makes cases from a seed, asks the partner and
+//! the reference, compares, counts.
+
+use crate::baseline;
+use crate::check::check;
+use crate::compare::{solve, Solution, ENTRY_LENGTH};
+use crate::frames::{reference_response, Request, Response};
+use crate::generate::proposals::{proposal, random_kind};
+use crate::generate::{item, item_of_kind, Item, ItemKind};
+use crate::model::{Task, Verdict};
+use crate::partner::{run_program, Adapter, Watch};
+use crate::random::Random;
+use crate::tally::Tally;
+use crate::task;
+use crate::text::{compare_output, verdict_name, INPUT_LIMIT};
+use std::path::PathBuf;
+use std::time::Duration;
+
+#[derive(Clone, Copy, PartialEq, Eq, Debug)]
+pub enum Operation {
+    Read,
+    Compare,
+    Check,
+    Program,
+}
+
+impl Operation {
+    pub const ALL: [Operation; 4] =
+        [Operation::Read, Operation::Compare, Operation::Check, Operation::Program];
+
+    pub fn name(self) -> &'static str {
+        ["read", "compare", "check", "program"][self as usize]
+    }
+
+    /// What `--fault` can alter in an answer of this operation.
+    pub fn fault_fields(self) -> &'static [&'static str] {
+        match self {
+            Operation::Read => &["refusal", "dump"],
+            Operation::Compare => {
+                &["refusal", "verdict", "positions", "rounds", "length", "table", "buffer"]
+            }
+            Operation::Check => &["refusal", "verdict", "rounds"],
+            Operation::Program => &["text"],
+        }
+    }
+}
+
+#[derive(Clone, Debug)]
+pub struct Options {
+    pub operation: Operation,
+    pub seed: u64,
+    pub count: u64,
+    /// The first item's number; others follow.
+    pub first: u64,
+    /// Items of this kind only.
+    pub kind: Option<ItemKind>,
+    /// This task in every case, not the seed's items.
+    pub task: Option<Vec<u8>>,
+    pub command: Vec<String>,
+    /// The field to alter in the first answer that has it, from this item
+    /// on.
+    pub fault: Option<(String, u64)>,
+    /// Key and least count.
+    pub required: Vec<(String, u64)>,
+    pub save: PathBuf,
+    pub timeout: Duration,
+}
+
+/// After this many mismatches a run ends.
+const MISMATCH_LIMIT: usize = 5;
+
+enum Partner {
+    Adapter(Adapter),
+    Program(Watch, Vec<String>),
+}
+
+/// One question, with both sides' answers in a form that can be compared.
+#[derive(Clone, PartialEq, Eq)]
+enum Question {
+    Frame(Request),
+    Text(Vec<u8>),
+}
+
+#[derive(Clone, PartialEq, Eq)]
+enum Reply {
+    Frame(Response),
+    Text(Vec<u8>),
+    Failure(String),
+}
+
+pub struct Runner {
+    options: Options,
+    partner: Partner,
+    tally: Tally,
+    fault_done: bool,
+    mismatches: usize,
+}
+
+/// What a run came to.
+pub struct Outcome {
+    pub cases: u64,
+    pub mismatches: usize,
+    pub missing: Vec<String>,
+    pub tally: Tally,
+}
+
+impl Outcome {
+    pub fn is_good(&self) -> bool {
+        self.mismatches == 0 && self.missing.is_empty()
+    }
+}
+
+pub fn run(options: Options) -> Result<Outcome, String> {
+    let watch = Watch::start(options.timeout);
+    let partner = match options.operation {
+        Operation::Program => Partner::Program(watch, options.command.clone()),
+        _ => Partner::Adapter(Adapter::start(&watch, &options.command)?),
+    };
+    let mut runner =
+        Runner { options, partner, tally: Tally::default(), fault_done: false, mismatches: 0 };
+    let mut cases = 0;
+    for index in runner.options.first..runner.options.first + runner.options.count {
+        cases += 1;
+        let goes_on = runner.one_case(index);
+        if !goes_on || runner.mismatches == MISMATCH_LIMIT {
+            break;
+        }
+    }
+    if runner.options.fault.is_some() && !runner.fault_done {
+        return Err("no answer had the field that --fault names".to_string());
+    }
+    let missing = runner.missing_counts();
+    Ok(Outcome { cases, mismatches: runner.mismatches, missing, tally: runner.tally })
+}
+
+impl Runner {
+    /// False if the partner can give no more answers.
+    fn one_case(&mut self, index: u64) -> bool {
+        let Options { operation, seed, kind, .. } = self.options;
+        let item = match (&self.options.task, kind) {
+            (Some(task), _) => Item { kind: ItemKind::Reach, bytes: task.clone() },
+            (None, Some(kind)) => item_of_kind(seed, index, kind),
+            (None, None) => item(seed, index),
+        };
+        let mut random = Random::for_item(seed ^ 0xca5e, index);
+        let (question, expected) = self.make_case(operation, &mut random, item);
+        let mut given = self.ask(&question);
+        let wanted =
+            self.options.fault.as_ref().filter(|(_, from)| !self.fault_done && index >= *from);
+        if let Some((field, _)) = wanted {
+            self.fault_done = alter(&mut random, &mut given, field);
+        }
+        if given != expected {
+            self.report(index, &question, &expected, &given);
+        }
+        !matches!(given, Reply::Failure(_)) || operation == Operation::Program
+    }
+
+    /// A given task may be too large for the plain comparer.
+    fn solve(&self, task: &Task) -> Solution {
+        match self.options.task {
+            Some(_) => baseline::solve(task),
+            None => solve(task),
+        }
+    }
+
+    fn make_case(
+        &mut self,
+        operation: Operation,
+        random: &mut Random,
+        item: Item,
+    ) -> (Question, Reply) {
+        self.tally.add(format!("item:{}", item.kind.name()));
+        self.tally.add_task_size(&item.bytes);
+        let question = match operation {
+            Operation::Read => Question::Frame(Request::Read { task: item.bytes }),
+            Operation::Compare => return self.compare_case(random, item.bytes),
+            Operation::Check => return self.check_case(random, item.bytes),
+            Operation::Program => return self.program_case(random, item.bytes),
+        };
+        let Question::Frame(request) = &question else { unreachable!() };
+        let response = reference_response(request);
+        if let Response::Read { refusal, .. } = &response {
+            self.tally.add(format!("refusal:{refusal}"));
+        }
+        (question, Reply::Frame(response))
+    }
+
+    /// Sizes of table and buffer are chosen around what is needed.
+    fn compare_case(&mut self, random: &mut Random, task: Vec<u8>) -> (Question, Reply) {
+        let solution = task::read(&task).ok().map(|parsed| {
+            let solution = self.solve(&parsed);
+            self.tally.add_outcome(&parsed, &solution);
+            self.tally.add_features(&parsed, &solution);
+            solution
+        });
+        let (entries, length) = needed_sizes(random, &solution);
+        let (table_word, table_size) = lent_size(random, entries, ENTRY_LENGTH);
+        let (buffer_word, buffer_size) = lent_size(random, length, 1);
+        let (table, buffer) = (random.bytes(table_size), random.bytes(buffer_size));
+        self.tally.add(format!("table:{table_word}"));
+        self.tally.add(format!("buffer:{buffer_word}"));
+        let request = Request::Compare { task, table: table.clone(), buffer: buffer.clone() };
+        let response = match &solution {
+            None => reference_response(&request),
+            Some(solution) => {
+                let (mut table, mut buffer) = (table, buffer);
+                let answer = solution.deliver(&mut table, &mut buffer);
+                Response::Compare { answer, table, buffer }
+            }
+        };
+        if let Response::Compare { answer, .. } = &response {
+            self.tally.add(format!("refusal:{}", answer.refusal));
+        }
+        (Question::Frame(request), Reply::Frame(response))
+    }
+
+    fn check_case(&mut self, random: &mut Random, task: Vec<u8>) -> (Question, Reply) {
+        let parsed = task::read(&task).ok();
+        let certificate = match &parsed {
+            None => {
+                let length = random.below(40);
+                random.bytes(length)
+            }
+            Some(parsed) => {
+                let kind = random_kind(random);
+                self.tally.add(format!("proposal:{}", kind.name()));
+                proposal(random, parsed, &self.solve(parsed), kind)
+            }
+        };
+        let answer = check(&task, &certificate);
+        self.tally.add(format!("refusal:{}", answer.refusal));
+        if answer.refusal == 0 {
+            self.tally.add(format!("verdict:{}", verdict_name(answer.verdict)));
+        }
+        if answer.verdict == Verdict::Differ.number() {
+            self.tally.add_rounds(answer.rounds);
+        }
+        let request = Request::Check { task, certificate };
+        (Question::Frame(request), Reply::Frame(Response::Check(answer)))
+    }
+
+    fn program_case(&mut self, random: &mut Random, mut task: Vec<u8>) -> (Question, Reply) {
+        if random.chance(3) {
+            let length = INPUT_LIMIT + random.below(3) - 1 + random.below(2) * random.below(70_000);
+            let kind = *random.pick(&[0, 1, 15]);
+            task.resize(length, kind);
+        }
+        let text = compare_output(&task);
+        let first_line = text.lines().next().unwrap_or("");
+        let mut words = first_line.split(' ');
+        match words.next() {
+            Some("REFUSED") => self.tally.add(format!("refusal:{}", words.next().unwrap_or(""))),
+            Some("TOO") => self.tally.add("too-long"),
+            _ => {
+                let parsed = task::read(&task).expect("not refused");
+                self.tally.add("refusal:0");
+                self.tally.add_outcome(&parsed, &solve(&parsed));
+            }
+        }
+        (Question::Text(task), Reply::Text(text.into_bytes()))
+    }
+
+    fn ask(&mut self, question: &Question) -> Reply {
+        let answer = match (&mut self.partner, question) {
+            (Partner::Adapter(adapter), Question::Frame(request)) => {
+                adapter.ask(request).map(Reply::Frame)
+            }
+            (Partner::Program(watch, command), Question::Text(input)) => {
+                run_program(watch, command, input).map(Reply::Text)
+            }
+            _ => Err("the partner cannot do this operation".to_string()),
+        };
+        answer.unwrap_or_else(Reply::Failure)
+    }
+
+    fn report(&mut self, index: u64, question: &Question, expected: &Reply, given: &Reply) {
+        self.mismatches += 1;
+        let Options { operation, seed, .. } = self.options;
+        println!("MISMATCH in {} of seed {seed}, item {index}", operation.name());
+        println!("  reference: {}", describe(expected, given));
+        println!("  partner:   {}", describe(given, expected));
+        let stem = format!("mismatch-{}-{seed}-{index}", operation.name());
+        match question {
+            Question::Frame(request) => {
+                let payload = request.payload();
+                let mut frame = (payload.len() as u32).to_le_bytes().to_vec();
+                frame.extend_from_slice(&payload);
+                self.save(&format!("{stem}.request"), &frame);
+                self.save(&format!("{stem}.task"), request.task());
+            }
+            Question::Text(input) => self.save(&format!("{stem}.task"), input),
+        }
+    }
+
+    fn save(&self, name: &str, bytes: &[u8]) {
+        let path = self.options.save.join(name);
+        let written =
+            std::fs::create_dir_all(&self.options.save).and_then(|()| std::fs::write(&path, bytes));
+        match written {
+            Ok(()) => println!("  saved {}", path.display()),
+            Err(error) => println!("  cannot save {}: {error}", path.display()),
+        }
+    }
+
+    fn missing_counts(&self) -> Vec<String> {
+        let required = self.options.required.iter();
+        let short = required.filter(|(key, least)| self.tally.get(key) < *least);
+        short.map(|(key, least)| format!("{key}: {} of {least}", self.tally.get(key))).collect()
+    }
+}
+
+/// Entries and certificate bytes that the task needs; made up where the
+/// task is turned back.
+fn needed_sizes(random: &mut Random, solution: &Option<Solution>) -> (usize, usize) {
+    match solution {
+        Some(solution) => (solution.entries.len(), solution.certificate.len()),
+        None => (random.below(5), random.below(50)),
+    }
+}
+
+/// A lent size near `count` units, and the name of the choice.
+fn lent_size(random: &mut Random, count: usize, unit: usize) -> (&'static str, usize) {
+    let exact = count * unit;
+    let less = exact.saturating_sub(unit);
+    match random.below(10) {
+        0..=2 => ("exact", exact),
+        3 => ("one-less", less),
+        4 if unit > 1 => ("one-less-with-spare", less + random.between(1, unit - 1)),
+        5 => ("zero", 0),
+        6 => ("larger", exact + random.between(12, 100)),
+        _ => ("spare", exact + random.between(1, 11)),
+    }
+}
+
+/// Alters one field of a partner's answer; false if it does not have it.
+fn alter(random: &mut Random, reply: &mut Reply, field: &str) -> bool {
+    match reply {
+        Reply::Failure(_) => false,
+        Reply::Text(text) => flip(random, text),
+        Reply::Frame(Response::Read { refusal, dump }) => match field {
+            "dump" => flip(random, dump),
+            _ => add_one(refusal),
+        },
+        Reply::Frame(Response::Check(answer)) => match field {
+            "verdict" => add_one(&mut answer.verdict),
+            "rounds" => add_one(&mut answer.rounds),
+            _ => add_one(&mut answer.refusal),
+        },
+        Reply::Frame(Response::Compare { answer, table, buffer }) => match field {
+            "verdict" => add_one(&mut answer.verdict),
+            "positions" => add_one(&mut answer.positions),
+            "rounds" => add_one(&mut answer.rounds),
+            "length" => add_one(&mut answer.certificate_length),
+            "table" => flip(random, table),
+            "buffer" => flip(random, buffer),
+            _ => add_one(&mut answer.refusal),
+        },
+    }
+}
+
+fn add_one(number: &mut u32) -> bool {
+    *number = number.wrapping_add(1);
+    true
+}
+
+fn flip(random: &mut Random, bytes: &mut [u8]) -> bool {
+    if bytes.is_empty() {
+        return false;
+    }
+    let place = random.below(bytes.len());
+    bytes[place] ^= 1 << random.below(8);
+    true
+}
+
+/// An answer in words; long byte strings from where they differ.
+fn describe(reply: &Reply, other: &Reply) -> String {
+    match (reply, other) {
+        (Reply::Failure(reason), _) => format!("no answer: {reason}"),
+        (Reply::Text(text), _) => format!("{:?}", String::from_utf8_lossy(text)),
+        (Reply::Frame(Response::Read { refusal, dump }), _) => {
+            format!("refusal {refusal}, dump {}", hex(dump, 0))
+        }
+        (Reply::Frame(Response::Check(answer)), _) => format!("{answer:?}"),
+        (Reply::Frame(Response::Compare { answer, table, buffer }), other) => {
+            let (other_table, other_buffer) = match other {
+                Reply::Frame(Response::Compare { table, buffer, .. }) => (&table[..], &buffer[..]),
+                _ => (&[][..], &[][..]),
+            };
+            let table_text = hex(table, first_difference(table, other_table));
+            let buffer_text = hex(buffer, first_difference(buffer, other_buffer));
+            format!("{answer:?}\n    table {table_text}\n    buffer {buffer_text}")
+        }
+    }
+}
+
+fn first_difference(one: &[u8], two: &[u8]) -> usize {
+    one.iter().zip(two).take_while(|(a, b)| a == b).count()
+}
+
+fn hex(bytes: &[u8], from: usize) -> String {
+    let shown: Vec<String> = bytes.iter().skip(from).take(64).map(|b| format!("{b:02x}")).collect();
+    format!("({} bytes, from {from}) {}", bytes.len(), shown.join(" "))
+}

@@ -1,0 +1,119 @@
+//! Named counts, for the quota table and for the runner's `--require`.
+
+use crate::certificate::{LOST, LOST_LENGTH};
+use crate::compare::Solution;
+use crate::game::{attacks, existing_attack, replies, Attack, Position};
+use crate::model::*;
+use std::collections::{BTreeMap, BTreeSet};
+
+#[derive(Clone, Default, Debug)]
+pub struct Tally {
+    counts: BTreeMap<String, u64>,
+}
+
+impl Tally {
+    pub fn add(&mut self, key: impl Into<String>) {
+        *self.counts.entry(key.into()).or_insert(0) += 1;
+    }
+
+    pub fn get(&self, key: &str) -> u64 {
+        self.counts.get(key).copied().unwrap_or(0)
+    }
+
+    pub fn table(&self) -> String {
+        self.counts.iter().map(|(key, count)| format!("{count:>9}  {key}\n")).collect()
+    }
+
+    /// Verdict, rounds and positions, in coarse classes.
+    pub fn add_outcome(&mut self, task: &Task, solution: &Solution) {
+        let positions = solution.entries.len() as u32;
+        self.add(format!("verdict:{}", solution.verdict.name()));
+        self.add(format!("positions:{}", class(positions, &POSITION_CLASSES)));
+        if solution.verdict == Verdict::Differ {
+            self.add_rounds(solution.rounds);
+        } else if !task.pairs.is_empty() && positions >= 3 {
+            self.add("equal:matched-and-3-positions");
+        }
+        if solution.rounds >= 3 {
+            self.add("rounds:at-least-3");
+        }
+    }
+
+    pub fn add_task_size(&mut self, task: &[u8]) {
+        self.add(format!("task-bytes:{}", class(task.len() as u32, &SIZE_CLASSES)));
+    }
+
+    pub fn add_rounds(&mut self, rounds: u32) {
+        self.add(format!("rounds:{}", class(rounds, &ROUND_CLASSES)));
+    }
+
+    /// Attack cases and meetings of edge kinds, each counted once a task.
+    pub fn add_features(&mut self, task: &Task, solution: &Solution) {
+        let mut keys = BTreeSet::new();
+        for (position, attack) in listed_attacks(task, &solution.certificate) {
+            keys.insert(format!("case:{}", attack.case));
+            for pair in reply_kinds(task, &position, attack) {
+                keys.insert(format!("certificate-reply:{pair}"));
+            }
+        }
+        // A sample is enough where there are very many positions.
+        for (position, _) in solution.entries.iter().take(300) {
+            for attack in attacks(task, position) {
+                for pair in reply_kinds(task, position, attack) {
+                    keys.insert(format!("reply:{pair}"));
+                }
+            }
+            keys.extend(meetings(task, position));
+        }
+        keys.into_iter().for_each(|key| self.add(key));
+    }
+}
+
+const ROUND_CLASSES: [u32; 7] = [0, 1, 2, 3, 5, 9, 15];
+const SIZE_CLASSES: [u32; 6] = [0, 1, 50, 200, 1000, 4097];
+const POSITION_CLASSES: [u32; 6] = [1, 2, 10, 100, 1000, 4001];
+
+/// The class of a number, by the lowest numbers of the classes: "3-4".
+fn class(number: u32, lowest: &[u32]) -> String {
+    let place = lowest.iter().rposition(|&low| low <= number).expect("a class");
+    match lowest.get(place + 1) {
+        None => format!("{}+", lowest[place]),
+        Some(next) if next - 1 == lowest[place] => format!("{}", lowest[place]),
+        Some(next) => format!("{}-{}", lowest[place], next - 1),
+    }
+}
+
+/// The attacks that a certificate of kind 17 names and that exist.
+pub fn listed_attacks(task: &Task, certificate: &[u8]) -> Vec<(Position, Attack)> {
+    if certificate.first() != Some(&LOST) {
+        return Vec::new();
+    }
+    let attack_of = |record: &[u8]| {
+        let position = Position::from_bytes(&record[1..9]);
+        let attack = existing_attack(task, &position, record[9], record[10], record[11])?;
+        Some((position, attack))
+    };
+    certificate.chunks(LOST_LENGTH).filter_map(attack_of).collect()
+}
+
+/// "attack kind-reply kind" for each reply.
+fn reply_kinds(task: &Task, position: &Position, attack: Attack) -> Vec<String> {
+    let edge_kind = |side: Side, edge: u8| task.model(side).edges[edge as usize].kind.name();
+    let attack_kind = edge_kind(attack.side, attack.edge);
+    let list = replies(task, position, attack);
+    let other = attack.side.other();
+    list.iter().map(|r| format!("{attack_kind}-{}", edge_kind(other, r.edge))).collect()
+}
+
+/// "left kind-right kind" for edges with the same tag, replies or not.
+fn meetings(task: &Task, position: &Position) -> BTreeSet<String> {
+    let mut found = BTreeSet::new();
+    for (_, left) in task.left.edges_from(position.left) {
+        for (_, right) in task.right.edges_from(position.right) {
+            if left.tag == right.tag {
+                found.insert(format!("meeting:{}-{}", left.kind.name(), right.kind.name()));
+            }
+        }
+    }
+    found
+}

@@ -1,0 +1,92 @@
+//! The generator's quotas, and that they can be missed.
+
+use crate::Test;
+use reference::generate::families::{family, FAMILIES};
+use reference::generate::proposals::ProposalKind;
+use reference::generate::quota::*;
+use reference::generate::*;
+use reference::tally::Tally;
+use reference::task::read;
+
+pub const TESTS: &[Test] = &[
+    ("generator: quotas in 20,000 items", quotas_are_met),
+    ("generator: a poor mix misses the quotas", quotas_can_be_missed),
+    ("generator: the same seed gives the same items", repeatable),
+    ("generator: undamaged items are valid", valid_items),
+    ("generator: proposed certificates", proposed_certificates),
+    ("generator: families are valid", valid_families),
+];
+
+fn quotas_are_met() {
+    let (table, met) = quota_table(&measure(1, 20_000));
+    print!("{table}");
+    assert!(met);
+}
+
+/// Small items alone have no refusals and no long attacks; and nothing at
+/// all misses everything.
+fn quotas_can_be_missed() {
+    let small = (0..4000).map(|index| item_of_kind(1, index, ItemKind::Small));
+    let (table, met) = quota_table(&measure_items(small));
+    assert!(!met);
+    let missed = |key: &str| table.lines().any(|l| l.contains("MISSED") && l.ends_with(key));
+    assert!(missed("refusal:7") && missed("rounds:15+") && missed("case:6"));
+    assert!(!missed("case:0"));
+    let (table, met) = quota_table(&Tally::default());
+    assert!(!met);
+    assert_eq!(table.matches("MISSED").count(), quotas().len());
+}
+
+fn repeatable() {
+    for index in 0..500 {
+        assert_eq!(item(5, index).bytes, item(5, index).bytes);
+    }
+    let differing = (0..500).filter(|&n| item(5, n).bytes != item(6, n).bytes).count();
+    assert!(differing > 450, "{differing}");
+}
+
+fn valid_items() {
+    for index in 0..5000 {
+        let made = item(7, index);
+        let valid = read(&made.bytes).is_ok();
+        assert!(valid || made.kind == ItemKind::Damaged, "item {index} of {:?}", made.kind);
+    }
+}
+
+fn proposed_certificates() {
+    let tally = measure_proposals(8, 3000);
+    let count =
+        |kind: ProposalKind, word: &str| tally.get(&format!("proposal:{}:{word}", kind.name()));
+    for kind in ProposalKind::ALL {
+        let (thirteen, fourteen) = (count(kind, "refused-13"), count(kind, "refused-14"));
+        let accepted = count(kind, "accepted");
+        assert!(accepted + thirteen + fourteen > 1000);
+        if kind.is_right() {
+            assert_eq!((thirteen, fourteen), (0, 0), "{}", kind.name());
+        }
+    }
+    use ProposalKind::*;
+    for always_ill_formed in [Reordered, TwoKinds] {
+        assert_eq!(
+            count(always_ill_formed, "accepted") + count(always_ill_formed, "refused-14"),
+            0
+        );
+    }
+    for never_right in [Empty, OtherVerdict] {
+        assert_eq!(count(never_right, "accepted") + count(never_right, "refused-13"), 0);
+    }
+    for often_wrong in [ByteAltered, Cut, WrongAttack, RecordMissing] {
+        assert!(count(often_wrong, "refused-14") >= 50, "{}", often_wrong.name());
+    }
+}
+
+fn valid_families() {
+    for (name, sizes, _) in FAMILIES {
+        let sizes = vec![3; sizes.split(' ').count()];
+        let task = family(name, &sizes).expect("a family");
+        assert!(read(&reference::task::write(&task)).is_ok(), "{name}");
+    }
+    assert!(family("dearest", &[7]).is_err());
+    assert!(family("ring", &[17, 2]).is_err());
+    assert!(family("nothing", &[]).is_err());
+}

@@ -1,0 +1,399 @@
+//! Properties of whole tasks: actual numbers, certificates, exchange of
+//! sides, lent sizes, the baseline, the families.
+
+use crate::Test;
+use reference::baseline;
+use reference::check::check;
+use reference::compare::*;
+use reference::game::*;
+use reference::generate::families::family;
+use reference::generate::*;
+use reference::model::*;
+use reference::numbers::{opening, Game, Number};
+use reference::random::Random;
+use reference::task::{read, write};
+use std::collections::{BTreeMap, BTreeSet};
+
+pub const TESTS: &[Test] = &[
+    ("actual numbers: least count is the rounds", actual_numbers),
+    ("actual numbers: one never-seen number is enough", two_new_numbers),
+    ("actual numbers: the history matters", short_history),
+    ("actual numbers: mistaken rules are contradicted", numbers_show_mistakes),
+    ("whole: own certificates are accepted", own_certificates),
+    ("whole: attack lists have first attacks, are closed and no longer", attack_lists),
+    ("whole: exchanging sides keeps verdict, rounds and positions", exchanged_sides),
+    ("whole: every lent size", lent_sizes),
+    ("whole: known mistakes are found by the items", mistakes),
+    ("baseline: same answers as the plain comparer", baseline_agrees),
+    ("families: dearest counts", dearest_counts),
+    ("families: rounds of chains and rings", chain_rounds),
+    ("families: ring of 16 states and 6 registers", large_ring),
+];
+
+/// Valid tasks among the items of a seed.
+fn tasks(seed: u64, count: u64) -> impl Iterator<Item = Task> {
+    (0..count).filter_map(move |index| read(&item(seed, index).bytes).ok())
+}
+
+/// Counts looked at with actual numbers.
+const MOST_ROUNDS: u32 = 5;
+
+/// Small enough for brute force: 1 to 3 registers in use, 1 to 4 states.
+fn is_small(task: &Task) -> bool {
+    Side::BOTH.iter().all(|&side| {
+        let model = task.model(side);
+        let held = model.states.iter().fold(0, |all, s| all | s.set.0);
+        let written = model.edges.iter().fold(held, |all, e| all | 1 << (e.register - 1));
+        let registers = written.count_ones();
+        (1..=3).contains(&registers) && model.states.len() <= 4 && model.edges.len() <= 8
+    })
+}
+
+/// An opening with numbers drawn at random and a history of 13 to 16.
+fn random_opening(random: &mut Random, task: &Task) -> reference::numbers::Setting {
+    let mut numbers: Vec<Number> = (0..50).collect();
+    random.shuffle(&mut numbers);
+    opening(task, &numbers, random.between(13, 16))
+}
+
+/// EQUAL, or the rounds, or "more" than brute force looks at.
+fn class_of(solution: &Solution) -> String {
+    match solution.verdict {
+        Verdict::Equal => "EQUAL".to_string(),
+        Verdict::Differ if solution.rounds > MOST_ROUNDS => "more".to_string(),
+        Verdict::Differ => solution.rounds.to_string(),
+    }
+}
+
+fn assert_least_count(game: &mut Game, setting: &reference::numbers::Setting, solution: &Solution) {
+    for count in 0..=MOST_ROUNDS {
+        let lost = solution.verdict == Verdict::Differ && solution.rounds <= count;
+        assert_eq!(game.forced_within(setting, count), lost, "count {count}");
+    }
+}
+
+fn actual_numbers() {
+    let mut seen: BTreeMap<String, usize> = BTreeMap::new();
+    let mut random = Random::new(71);
+    let mut total = 0;
+    for task in tasks(70, 12_000).filter(is_small) {
+        let solution = solve(&task);
+        let class = seen.entry(class_of(&solution)).or_insert(0);
+        if *class == 400 {
+            continue;
+        }
+        *class += 1;
+        total += 1;
+        let setting = random_opening(&mut random, &task);
+        assert_least_count(&mut Game::new(&task, 1), &setting, &solution);
+    }
+    println!("       tasks by rounds: {seen:?}");
+    assert!(total >= 500, "{total} tasks");
+    for class in ["0", "1", "2", "3", "4", "EQUAL"] {
+        assert!(seen.get(class).is_some_and(|&n| n >= 50), "few of class {class}");
+    }
+}
+
+fn two_new_numbers() {
+    let mut random = Random::new(73);
+    for task in tasks(72, 2000).filter(is_small).take(300) {
+        let setting = random_opening(&mut random, &task);
+        let (mut one, mut two) = (Game::new(&task, 1), Game::new(&task, 2));
+        for count in 0..=3 {
+            let answers = [&mut one, &mut two].map(|g| g.forced_within(&setting, count));
+            assert_eq!(answers[0], answers[1]);
+        }
+    }
+}
+
+/// Six registers, all shared, a locally fresh edge against a globally fresh
+/// one. If only the six numbers were seen, there is no seen number that
+/// neither holds, so the globally fresh edge takes all that the other takes.
+/// This shows that the brute force looks at the history.
+fn short_history() {
+    let state = State { set: RegisterSet(0x3f), end_mark: 0 };
+    let model = |kind| {
+        let edge = Edge { from: 0, tag: 0, kind, register: 1, to: 0 };
+        Model { registers: 6, start: 0, states: vec![state], edges: vec![edge] }
+    };
+    let pairs = (1..=6).map(|r| (r, r)).collect();
+    let task = Task { left: model(Kind::LocallyFresh), right: model(Kind::GloballyFresh), pairs };
+    let numbers: Vec<Number> = (0..40).collect();
+    let force = |history| Game::new(&task, 1).forced_within(&opening(&task, &numbers, history), 1);
+    assert!(!force(6));
+    assert!(force(7));
+    assert!(force(13));
+    assert_eq!(solve(&task).rounds, 1);
+}
+
+fn own_certificates() {
+    for task in tasks(80, 3000) {
+        let solution = solve(&task);
+        let answer = check(&write(&task), &solution.certificate);
+        assert_eq!(answer.refusal, 0);
+        assert_eq!((answer.verdict, answer.rounds), (solution.verdict.number(), solution.rounds));
+        assert!(solution.rounds as usize <= solution.entries.len());
+        assert!(solution.entries.iter().all(|(p, _)| p.is_legal(&task)));
+    }
+}
+
+/// A listed attack: side, edge and case as bytes.
+type AttackBytes = (u8, u8, u8);
+
+fn wins(task: &Task, rounds_of: &BTreeMap<Position, u32>, p: &Position, a: AttackBytes) -> bool {
+    let Some(attack) = existing_attack(task, p, a.0, a.1, a.2) else {
+        return false;
+    };
+    let sooner = |r: &Reply| rounds_of[&r.leads_to] < rounds_of[p];
+    replies(task, p, attack).iter().all(sooner)
+}
+
+/// The first of all byte triples that is a winning attack.
+fn first_by_bytes(
+    task: &Task,
+    rounds_of: &BTreeMap<Position, u32>,
+    p: &Position,
+) -> Option<AttackBytes> {
+    let edges = (1..=2).flat_map(|side| (0..64).map(move |edge| (side, edge)));
+    let mut triples = edges.flat_map(|(side, edge)| (0..=8).map(move |case| (side, edge, case)));
+    triples.find(|&a| wins(task, rounds_of, p, a))
+}
+
+fn attack_lists() {
+    let mut lists = 0;
+    for task in tasks(84, 3000) {
+        let solution = solve(&task);
+        if solution.verdict == Verdict::Equal || solution.entries.len() > 500 {
+            continue;
+        }
+        lists += 1;
+        check_attack_list(&task, &solution);
+    }
+    assert!(lists > 500);
+}
+
+fn check_attack_list(task: &Task, solution: &Solution) {
+    let rounds_of: BTreeMap<Position, u32> = solution.entries.iter().copied().collect();
+    let mut led_to = BTreeSet::from([Position::start(task)]);
+    let mut listed = BTreeSet::new();
+    for record in solution.certificate.chunks(16) {
+        let position = Position::from_bytes(&record[1..9]);
+        let fields = (record[9], record[10], record[11]);
+        let rounds = u32::from_be_bytes([record[12], record[13], record[14], record[15]]);
+        assert_eq!(rounds, rounds_of[&position]);
+        listed.insert(position);
+        if rounds == 0 {
+            assert_eq!(fields, (0, 0, 0));
+            continue;
+        }
+        assert_eq!(Some(fields), first_by_bytes(task, &rounds_of, &position));
+        let attack = existing_attack(task, &position, fields.0, fields.1, fields.2);
+        let list = replies(task, &position, attack.expect("an attack"));
+        led_to.extend(list.iter().map(|r| r.leads_to));
+    }
+    // What attacks lead to has fewer rounds, so equal sets mean that every
+    // listed position is led to from the start.
+    assert_eq!(listed, led_to);
+}
+
+fn exchanged_sides() {
+    for task in tasks(81, 3000) {
+        let (one, two) = (solve(&task), solve(&task.exchanged()));
+        assert_eq!((one.verdict, one.rounds), (two.verdict, two.rounds));
+        assert_eq!(one.entries.len(), two.entries.len());
+    }
+}
+
+fn lent_sizes() {
+    let mut random = Random::new(82);
+    for task in tasks(82, 120) {
+        let solution = solve(&task);
+        let (entries, needed) = (solution.entries.len(), solution.certificate.len());
+        if entries > 12 {
+            continue;
+        }
+        for table_size in 0..entries * 12 + 14 {
+            let buffer_size = [needed, needed - 1, needed + 3, 0][random.below(4)];
+            check_sizes(&mut random, &task, &solution, table_size, buffer_size);
+        }
+        for buffer_size in 0..needed + 5 {
+            check_sizes(&mut random, &task, &solution, entries * 12 + 5, buffer_size);
+        }
+    }
+}
+
+fn check_sizes(random: &mut Random, task: &Task, solution: &Solution, table: usize, buffer: usize) {
+    let (mut table, mut buffer) = (random.bytes(table), random.bytes(buffer));
+    let before = buffer.clone();
+    let answer = compare(&write(task), &mut table, &mut buffer);
+    let needed = solution.certificate.len();
+    let refusal = match () {
+        _ if table.len() < 12 * solution.entries.len() => 11,
+        _ if buffer.len() < needed => 12,
+        _ => 0,
+    };
+    assert_eq!(answer.refusal, refusal);
+    if refusal != 0 {
+        assert_eq!(answer, Answer { refusal, ..Answer::default() });
+        assert!(table.iter().all(|&b| b == 0));
+        assert_eq!(buffer, before);
+        return;
+    }
+    assert_eq!(answer.certificate_length as usize, needed);
+    assert_eq!(buffer[..needed], solution.certificate);
+    assert_eq!(buffer[needed..], before[needed..]);
+    let used = 12 * answer.positions as usize;
+    assert!(table[used..].iter().all(|&b| b == 0));
+    assert!(table[..used].chunks(12).is_sorted_by(|a, b| a[..8] < b[..8]));
+}
+
+/// Rules with one mistake: 0, locally fresh attacks with new numbers only; 1,
+/// known edges of unpartnered registers lost; 2, written registers keep their
+/// partner.
+fn mistaken_moves(mistake: usize, task: &Task, position: &Position) -> Vec<Vec<Position>> {
+    match mistake {
+        0 => kept_moves(task, position, |a| !(1..=6).contains(&a.case), |_, _| true),
+        1 => kept_moves(task, position, |_| true, |a, partnered| a.case != 0 || partnered),
+        _ => forgetful_moves(task, position),
+    }
+}
+
+fn rounds_at_start(task: &Task, entries: &[(Position, u32)]) -> u32 {
+    let start = Position::start(task);
+    entries.iter().find(|(p, _)| *p == start).expect("the start is reached").1
+}
+
+/// How many of these items would show each mistake: the three above; guesses
+/// that stay believed; everything EQUAL that is not lost in round one.
+fn mistakes() {
+    let mut shown = [0; 5];
+    for task in tasks(83, 4000) {
+        let right = settle_from(&task, &[Position::start(&task)]);
+        if right.len() > 300 {
+            continue;
+        }
+        for mistake in 0..3 {
+            let entries = settle_by(&task, |p| mistaken_moves(mistake, &task, p));
+            shown[mistake] += (entries != right) as u32;
+        }
+        let rounds = rounds_at_start(&task, &right);
+        shown[3] += (believing(&task) != (rounds == NEVER_LOST)) as u32;
+        let called_equal_after_round_one = rounds > 1;
+        shown[4] += (called_equal_after_round_one && rounds != NEVER_LOST) as u32;
+    }
+    println!("       items that show a mistake: {shown:?}");
+    assert!(shown.iter().all(|&n| n >= 20), "{shown:?}");
+}
+
+/// The brute force contradicts rounds that come from mistaken rules.
+fn numbers_show_mistakes() {
+    let mut shown = [0; 3];
+    let mut random = Random::new(75);
+    for task in tasks(74, 6000).filter(is_small) {
+        let setting = random_opening(&mut random, &task);
+        let mut game = Game::new(&task, 1);
+        for mistake in 0..3 {
+            let entries = settle_by(&task, |p| mistaken_moves(mistake, &task, p));
+            let rounds = rounds_at_start(&task, &entries);
+            let disagrees =
+                |n: u32, game: &mut Game| game.forced_within(&setting, n) != (rounds <= n);
+            shown[mistake] += (0..=3).any(|n| disagrees(n, &mut game)) as u32;
+        }
+    }
+    println!("       tasks that show a mistake: {shown:?}");
+    assert!(shown.iter().all(|&n| n >= 10), "{shown:?}");
+}
+
+/// The moves with some attacks left out, or some replies taken away.
+fn kept_moves(
+    task: &Task,
+    position: &Position,
+    attack_kept: impl Fn(&Attack) -> bool,
+    replies_kept: impl Fn(&Attack, bool) -> bool,
+) -> Vec<Vec<Position>> {
+    let kept = attacks(task, position).into_iter().filter(|a| attack_kept(a));
+    kept.map(|attack| {
+        let edge = task.model(attack.side).edges[attack.edge as usize];
+        let partnered = position.partner(attack.side, edge.register).is_some();
+        let list = replies(task, position, attack);
+        list.iter().filter(|_| replies_kept(&attack, partnered)).map(|r| r.leads_to).collect()
+    })
+    .collect()
+}
+
+/// Old partners stay wherever the to sets let them, though their register
+/// was written.
+fn forgetful_moves(task: &Task, position: &Position) -> Vec<Vec<Position>> {
+    let mut all = moves(task, position);
+    for next in all.iter_mut().flatten() {
+        let (left, right) = (task.left.set(next.left), task.right.set(next.right));
+        for (index, &old) in position.partners.iter().enumerate() {
+            let stays = left.contains(index as u8 + 1) && right.contains(old);
+            if stays && next.partners[index] == 0 {
+                next.partners[index] = old;
+            }
+        }
+    }
+    all
+}
+
+/// Depth first, with every unfinished position believed to be equal and
+/// every answer remembered: true if it says EQUAL.
+fn believing(task: &Task) -> bool {
+    fn holds(task: &Task, p: Position, memory: &mut BTreeMap<Position, bool>) -> bool {
+        if let Some(&known) = memory.get(&p) {
+            return known;
+        }
+        memory.insert(p, true);
+        let answer = !p.end_marks_differ(task)
+            && moves(task, &p).iter().all(|ts| ts.iter().any(|&t| holds(task, t, memory)));
+        memory.insert(p, answer);
+        answer
+    }
+    holds(task, Position::start(task), &mut BTreeMap::new())
+}
+
+fn baseline_agrees() {
+    for task in tasks(90, 6000) {
+        assert!(baseline::solve(&task) == solve(&task), "{task:?}");
+    }
+    for (name, sizes) in [
+        ("dearest", &[5][..]),
+        ("dearest-equal", &[4]),
+        ("ring", &[3, 4]),
+        ("ring-equal", &[4, 3]),
+        ("ring-late", &[5, 3]),
+        ("chain", &[16]),
+        ("rings", &[16, 15]),
+    ] {
+        let task = family(name, sizes).expect("a family");
+        assert!(baseline::solve(&task) == solve(&task), "{name}");
+    }
+}
+
+fn dearest_counts() {
+    for (registers, wanted) in [1, 2, 7, 34, 209, 1546, 13327].into_iter().enumerate() {
+        let task = family("dearest", &[registers]).expect("dearest");
+        assert_eq!(solve(&task).entries.len(), wanted, "{registers} registers, plain");
+        assert_eq!(baseline::settled_positions(&task).len(), wanted, "{registers} registers");
+    }
+}
+
+fn chain_rounds() {
+    for states in 1..=16 {
+        let solution = solve(&family("chain", &[states]).expect("chain"));
+        assert_eq!((solution.verdict, solution.rounds as usize), (Verdict::Differ, states - 1));
+    }
+    for long in 3..=16 {
+        let solution = solve(&family("rings", &[long, long - 1]).expect("rings"));
+        assert_eq!(solution.rounds as usize, 2 * long - 3);
+        assert_eq!(solution.entries.len(), long * (long - 1));
+    }
+}
+
+fn large_ring() {
+    let task = family("ring", &[16, 6]).expect("ring");
+    assert_eq!(read(&write(&task)).as_ref(), Ok(&task));
+    let count = baseline::settled_positions(&task).len();
+    assert!(count > 3_000_000 && count <= 3_411_712, "{count}");
+}

@@ -8,9 +8,9 @@ use mathlib.Core.Option.{Option, none, some}
 use native.Mathlib.Omega.{arith}
 use lib.ListN.{length, take}
 use Rattle.fra.specs.Rules.{Rules, bisimulation}
-use Rattle.fra.specs.Game.{Bisimulation}
+use Rattle.fra.specs.Game.{lostWithin, Bisimulation}
 use Rattle.fra.specs.Lists.{_∈_}
-use Rattle.fra.specs.Reach.{reached, rounds}
+use Rattle.fra.specs.Reach.{reached}
 use Rattle.fra.specs.declared.Position.{Position}
 use Rattle.fra.specs.declared.Task.{Task}
 use Rattle.task.specs.TaskFile.{readTask, maxRegisters}
@@ -26,6 +26,7 @@ use Rattle.outcome.specs.declared.Verdict.the-variants.{Equal, Differ}
 use Rattle.outcome.specs.declared.Comparison.{Comparison}
 use Rattle.outcome.specs.declared.Comparison.the-variants.{Decided, Refused}
 use Rattle.numbers.specs.Numbers.{Setting, Opening, Enough, LeastEnough}
+use Rattle.fra_laws.proofs.Tests.{not-both}
 use Rattle.fra_laws.proofs.Lost.{NeverLost}
 use Rattle.fra_laws.proofs.Rounds.{HasRank}
 use Rattle.fra_laws.proofs.Reached.{reached-start, reached-legal}
@@ -35,7 +36,7 @@ use Rattle.task_laws.proofs.Refusals.{refused-exactly as unread-exactly}
 use Rattle.outcome_laws.proofs.Written.{reached-closed}
 use Rattle.outcome_laws.proofs.Compare.{Says, refused-exactly, late-outcome}
 use Rattle.number_laws.proofs.Agreement.{opening-exists, least-enough-iff-first-lost, never-enough-iff-never-lost}
-use Rattle.promises.proofs.Support.{taskOf, compared-read, compared-unread, decided-read, rounds-never, rounds-least}
+use Rattle.promises.proofs.Support.{taskOf, compared-read, compared-unread, decided-read, verdict-start, same-rank}
 
 -- ── Demand 1: a verdict, or a refusal in the case named for it and in no other ──
 
@@ -104,24 +105,84 @@ module _ (file table buffer : List ℕ) (positions n size : ℕ) where
       let (read, says) = decided-read equality file table buffer Equal positions n size given in
       let valid = read-valid file read in
       let t = taskOf file in
+      ⊎-elim
+      (λ (e, never).
       let (b, m) =
       never-lost-in-bisimulation bisimulation maxRegisters t (reached bisimulation t) (reached-closed valid bisimulation)
-      (reached-legal valid bisimulation) (t .start) (reached-start valid bisimulation)
-      (rounds-never valid bisimulation .0 (equal-never says)) in
-      ((λ p. p ∈ keptMembers bisimulation t (reached bisimulation t)), b, m)
-    where
-      equal-never : Says equality (taskOf file) table buffer Equal positions n size
-          → rounds bisimulation (taskOf file) (taskOf file .start) ≡ none
-      equal-never says = ⊎-elim (λ (e, never, z). never) (λ (e, lost). let z : _≡_ {A = ℕ} 0 1 = cc in absurd (omega arith)) (says .start)
+      (reached-legal valid bisimulation) (t .start) (reached-start valid bisimulation) never in
+      ((λ p. p ∈ keptMembers bisimulation t (reached bisimulation t)), b, m))
+      (λ (e, rank, bound). let z : _≡_ {A = ℕ} 0 1 = cc in absurd (omega arith))
+      (verdict-start valid equality says)
 
   -- Of a comparison that is DIFFER: no set of positions whatever is one.
   pub differ-means-not-bisimilar : compare equality file table buffer .answer ≡ Decided Differ positions n size
       → (R : Position → Type 0) → Bisimulation bisimulation maxRegisters (taskOf file) R → R (taskOf file .start) → ⊥
   differ-means-not-bisimilar given =
       let (read, says) = decided-read equality file table buffer Differ positions n size given in
-      let (rank, bound) = rounds-least (read-valid file read) bisimulation n (differ-lost says) in
-      lost-in-no-bisimulation bisimulation maxRegisters (taskOf file) n (taskOf file .start) (rank .lost)
-    where
-      differ-lost : Says equality (taskOf file) table buffer Differ positions n size
-          → rounds bisimulation (taskOf file) (taskOf file .start) ≡ some n
-      differ-lost says = ⊎-elim (λ (e, never, z). let z : _≡_ {A = ℕ} 0 1 = cc in absurd (omega arith)) (λ (e, lost). lost) (says .start)
+      ⊎-elim (λ (e, never). let z : _≡_ {A = ℕ} 0 1 = cc in absurd (omega arith))
+      (λ (e, rank, bound).
+      lost-in-no-bisimulation bisimulation maxRegisters (taskOf file) n (taskOf file .start) (rank .lost))
+      (verdict-start (read-valid file read) equality says)
+
+-- ── Demand 3: what a verdict says of actual numbers, for every opening ──
+
+module _ (file table buffer : List ℕ) (v : Verdict) (positions n size : ℕ)
+    (given : compare equality file table buffer .answer ≡ Decided v positions n size) where
+  abbrev read : readTask file .answer ≡ Read
+  read = decided-read equality file table buffer v positions n size given .0
+
+  abbrev says : Says equality (taskOf file) table buffer v positions n size
+  says = decided-read equality file table buffer v positions n size given .1
+
+  -- The task has an opening, so that what follows is not empty.
+  pub task-has-an-opening : (s : Setting) × Opening maxRegisters (taskOf file) s
+  task-has-an-opening = opening-exists maxRegisters (taskOf file) (read-valid file read)
+
+  -- The rounds never exceed the reported count of positions reached.
+  pub rounds-within-positions : v ≡ Differ → n ≤ positions
+  rounds-within-positions d =
+      ⊎-elim (λ (e, never). let z : _≡_ {A = ℕ} 0 1 = cc in absurd (omega arith)) (λ (e, rank, bound). bound)
+      (verdict-start (read-valid file read) equality says)
+
+  module _ (s : Setting) (opening : Opening maxRegisters (taskOf file) s) where
+    -- DIFFER in n rounds is given exactly when n is the least count that is enough.
+    pub differ-exactly : (m : ℕ) → ((v ≡ Differ) × (n ≡ m)) ↔ LeastEnough bisimulation (taskOf file) m s
+    differ-exactly m = by (verdict-start (read-valid file read) equality says)
+      where
+        least : LeastEnough bisimulation (taskOf file) m s ↔ HasRank bisimulation (taskOf file) (taskOf file .start) m
+        least =
+            let e = least-enough-iff-first-lost maxRegisters (taskOf file) (read-valid file read) bisimulation s opening m in (
+              λ h. let w = e .0 h in record { lost = w .0; not-before = w .1 },
+              λ h. e .1 (h .lost, h .not-before),
+            )
+
+        by : ((v ≡ Equal) × NeverLost bisimulation (taskOf file) (taskOf file .start))
+            ⊎ (v ≡ Differ) × HasRank bisimulation (taskOf file) (taskOf file .start) n × (n ≤ positions)
+            → ((v ≡ Differ) × (n ≡ m)) ↔ LeastEnough bisimulation (taskOf file) m s
+        by (inl (e, never)) = (
+          λ (d, f). let z : _≡_ {A = ℕ} 0 1 = cc in absurd (omega arith),
+          λ h. absurd (not-both (lostWithin bisimulation (taskOf file) m (taskOf file .start)) (least .0 h .lost) (never m)),
+        )
+        by (inr (e, rank, bound)) = (
+          λ (d, f). least .1 (subst (HasRank bisimulation (taskOf file) (taskOf file .start)) f rank),
+          λ h. (e, same-rank rank (least .0 h)),
+        )
+
+    -- EQUAL is given exactly when no count is enough.
+    pub equal-exactly : (v ≡ Equal) ↔ ((m : ℕ) → Enough bisimulation (taskOf file) m s → ⊥)
+    equal-exactly = by (verdict-start (read-valid file read) equality says)
+      where
+        never-enough : ((m : ℕ) → Enough bisimulation (taskOf file) m s → ⊥)
+            ↔ NeverLost bisimulation (taskOf file) (taskOf file .start)
+        never-enough = never-enough-iff-never-lost maxRegisters (taskOf file) (read-valid file read) bisimulation s opening
+
+        by : ((v ≡ Equal) × NeverLost bisimulation (taskOf file) (taskOf file .start))
+            ⊎ (v ≡ Differ) × HasRank bisimulation (taskOf file) (taskOf file .start) n × (n ≤ positions)
+            → (v ≡ Equal) ↔ ((m : ℕ) → Enough bisimulation (taskOf file) m s → ⊥)
+        by (inl (e, never)) = (λ d. never-enough .1 never, λ h. e)
+        by (inr (e, rank, bound)) = (
+          λ d. let z : _≡_ {A = ℕ} 0 1 = cc in absurd (omega arith),
+          λ h.
+              absurd
+              (not-both (lostWithin bisimulation (taskOf file) n (taskOf file .start)) (rank .lost) (never-enough .0 h n)),
+        )

@@ -1,16 +1,19 @@
 -- What a verdict on a task's bytes says of the task that they hold. Assumes nothing.
 use Prim.Native.Nat.{ℕ, suc, _≤_, _<_}
 use mathlib.Core.Path.{_≡_, refl, sym, _∙_, ap}
-use mathlib.Core.Logic.{_⊎_, inl, inr, _↔_}
+use mathlib.Core.Logic.{_⊎_, inl, inr, ⊎-elim, _↔_}
 use mathlib.Core.List.{List}
 use mathlib.Core.Option.{Option, none, some}
 use native.Mathlib.Omega.{arith}
+use native.Mathlib.Decide.{decLt}
 use lib.ListN.{length}
 use Rattle.fra.specs.Rules.{Rules}
 use Rattle.fra.specs.Game.{lostWithin}
 use Rattle.fra.specs.Reach.{reached, rounds}
 use Rattle.fra.specs.Valid.{Valid}
+use Rattle.fra.specs.declared.Position.{Position}
 use Rattle.fra.specs.declared.Task.{Task}
+use Rattle.fra_laws.proofs.Tests.{not-both}
 use Rattle.task.specs.TaskFile.{readTask, maxRegisters}
 use Rattle.task.specs.declared.Answer.{Answer}
 use Rattle.task.specs.declared.Answer.the-variants.{Read, Refused as Unread}
@@ -70,3 +73,25 @@ module _ {r : ℕ} {t : Task} (valid : Valid r t) (g : Rules) where
   pub rounds-least : (n : ℕ) → rounds g t (t .start) ≡ some n → HasRank g t (t .start) n × (n ≤ length (reached g t))
   unfolding rounds
   rounds-least n e = rank-exactly g t (length (reached g t)) (t .start) n .0 e
+
+-- what a verdict says of the start: it is never lost, or it is lost within n rounds and not within fewer
+pub verdict-start : {r : ℕ} {t : Task} → Valid r t
+    → (c : Contest) {table buffer : List ℕ} {v : Verdict} {positions n size : ℕ} → Says c t table buffer v positions n size
+    → ((v ≡ c .kept) × NeverLost (c .rules) t (t .start))
+    ⊎ (v ≡ c .lost) × HasRank (c .rules) t (t .start) n × (n ≤ positions)
+verdict-start valid c says =
+    ⊎-elim (λ (e, never, z). inl (e, rounds-never valid (c .rules) .0 never))
+    (λ (e, lost).
+    let (rank, bound) = rounds-least valid (c .rules) _ lost in
+    let count = says .count in
+    inr (e, rank, omega arith))
+    (says .start)
+
+-- two counts of which each is the least within which a position is lost are one
+pub same-rank : {g : Rules} {t : Task} {p : Position} {n m : ℕ} → HasRank g t p n → HasRank g t p m → n ≡ m
+same-rank {g} {t} {p} {n} {m} a b = step (decLt n m) (decLt m n)
+  where
+    step : Dec (n < m) → Dec (m < n) → n ≡ m
+    step (yes h) d = absurd (not-both (lostWithin g t n p) (a .lost) (b .not-before n h))
+    step (no h) (yes d) = absurd (not-both (lostWithin g t m p) (b .lost) (a .not-before m d))
+    step (no h) (no d) = omega arith

@@ -1,6 +1,6 @@
 -- 01, "Turned back, in checking order", 1 to 10: for each refusal the case that 01 names for it, stated on the records of a
 -- file. Nothing here goes by way of the reader.
-use Prim.Native.Nat.{ℕ, zero, suc, _+_, _≤_, _<_}
+use Prim.Native.Nat.{ℕ, zero, suc, _≤_, _<_}
 use mathlib.Core.Path.{_≡_}
 use mathlib.Core.Logic.{_⊎_}
 use mathlib.Core.Bool.{Bool, true, false, cond}

@@ -2,14 +2,14 @@
 use Prim.Native.Nat.{ℕ, zero, suc, _+_, _-_, _^_, _≤_, _<_}
 use mathlib.Core.Path.{_≡_, refl, sym, _∙_, ap, subst}
 use mathlib.Core.Logic.{_⊎_, inl, inr, ⊎-elim}
-use mathlib.Core.Bool.{Bool, true, false, not, cond, _&&_, _||_}
+use mathlib.Core.Bool.{Bool, true, false, not, cond, _||_}
 use mathlib.Core.List.{List, [], _∷_}
 use native.Mathlib.Omega.{arith}
 use native.Mathlib.Decide.{ℕ-discrete, decLt}
 use lib.ListN.{length, getD, drop, length-drop, List·getD-eq-default}
 use lib.Seq.{getD-drop}
 use lib.Dec.{ltb, leb, eqb}
-use Rattle.fra.specs.Lists.{_∈_, any, below}
+use Rattle.fra.specs.Lists.{any, below}
 use Rattle.fra.specs.Registers.{has, inside, with}
 use Rattle.fra.specs.Model.{setOf}
 use Rattle.fra.specs.Valid.{RegisterRule}
@@ -25,7 +25,7 @@ use Rattle.task_laws.proofs.Checks.{HeaderFits, header-fits, StateFits,
 use Rattle.task_laws.proofs.Models.{Whole, rule-kept}
 use Rattle.task_laws.proofs.Ties.{Written, Paired}
 use Rattle.fra_laws.proofs.Tests.{and-false, not-both, passes-or-fails}
-use Rattle.task.specs.Records.{Record, header, state, edge, pair, end, Allowed, statesRead, registers, states, setIn, edgesRead, lastEdge, earlier, start, startSet, Rule, place, header-rule, state-rule, existence, register-rule, edge-order, edge-limit, pair-rule, number, HeaderFault, StateFault, Nonexistence, RegisterFault, KindFault, OrderFault, LimitFault, PairFault, Breaks}
+use Rattle.task.specs.Records.{Record, header, state, edge, pair, end, Allowed, statesRead, registers, states, setIn, earlier, start, startSet, Rule, place, header-rule, state-rule, existence, register-rule, edge-order, edge-limit, pair-rule, number, HeaderFault, StateFault, Nonexistence, RegisterFault, KindFault, OrderFault, LimitFault, PairFault, Breaks}
 
 -- ── The lowest rule that is broken ──
 
@@ -108,7 +108,7 @@ module _ (l : List Record) (x : Record) where
 
 header-faulty : (r n q : ℕ) → (ltb maxRegisters r || eqb n 0 || ltb maxStates n || leb n q) ≡ true → HeaderFault (header r n q)
 unfolding HeaderFault
-header-faulty r n q h = at (some-of-four (ltb maxRegisters r) (eqb n 0) (ltb maxStates n) (leb n q) h)
+header-faulty r n q h = at (some-of-four _ _ _ _ h)
   where
     at : (ltb maxRegisters r ≡ true) ⊎ (eqb n 0 ≡ true) ⊎ (ltb maxStates n ≡ true) ⊎ (leb n q ≡ true)
         → HeaderFault (header r n q)
@@ -128,7 +128,7 @@ pub header-judged : (l : List Record) (r n q : ℕ) → Allowed l (header r n q)
 unfolding headerRefusal number Breaks StateFault Nonexistence KindFault OrderFault LimitFault PairFault
 header-judged l r n q allowed =
     let x = header r n q in
-    check l x header-rule (ltb maxRegisters r || eqb n 0 || ltb maxStates n || leb n q) 0 (placed l x allowed) (header-faulty r n q)
+    check l x header-rule _ 0 (placed l x allowed) (header-faulty r n q)
     (λ e. header-kept (header-fits r n q (rw e)))
     (λ e below.
     obeyed l x
@@ -142,7 +142,7 @@ header-judged l r n q allowed =
 module _ (l : List Record) (m : Model) (q n set mark : ℕ) (due : statesRead l ≡ q) (same : m .registers ≡ registers l) where
   state-faulty : (not (eqb n q) || leb (2 ^ m .registers) set || ltb 1 mark) ≡ true → StateFault l (state n set mark)
   unfolding StateFault
-  state-faulty h = at (some-of-three (not (eqb n q)) (leb (2 ^ m .registers) set) (ltb 1 mark) h)
+  state-faulty h = at (some-of-three _ _ _ h)
     where
       at : (not (eqb n q) ≡ true) ⊎ (leb (2 ^ m .registers) set ≡ true) ⊎ (ltb 1 mark ≡ true) → StateFault l (state n set mark)
       at (inl e) = inl (λ d. eqb-false n q (not-true (eqb n q) e) (d ∙ due))
@@ -161,7 +161,7 @@ module _ (l : List Record) (m : Model) (q n set mark : ℕ) (due : statesRead l 
   unfolding stateRefusal number Breaks HeaderFault Nonexistence KindFault OrderFault LimitFault PairFault
   state-judged allowed =
       let x = state n set mark in
-      check l x state-rule (not (eqb n q) || leb (2 ^ m .registers) set || ltb 1 mark) 0
+      check l x state-rule _ 0
       (pass l x header-rule (λ b. b) (placed l x allowed)) state-faulty (λ e. state-kept (state-fits m q n set mark (rw e)))
       (λ e below.
       obeyed l x
@@ -175,24 +175,21 @@ register-faulty : (r from to kind i : ℕ) → keepsRule r from to (kindOf kind 
 unfolding keepsRule RegisterFault
 register-faulty r from to zero i h =
     ⊎-elim (λ (e : has from i ≡ false). inl e) (λ (e : inside r to (has from) ≡ false). inr (inside-false r to (has from) e))
-    (and-false (has from i) (inside r to (has from)) h)
+    (and-false _ _ h)
 register-faulty r from to (suc zero) i h = inside-false r to (with from i) h
 register-faulty r from to (suc (suc kind)) i h = inside-false r to (with from i) h
 
 register-kept : (from to kind i : ℕ) → RegisterRule from to (kindOf kind i) → RegisterFault from to i kind → ⊥
 unfolding RegisterFault
-register-kept from to zero i rule (inl e) = not-both (has from i) (rule .0) e
-register-kept from to zero i rule (inr w) = not-both (has from (w .0)) (rule .1 (w .0) (w .1)) (w .2)
-register-kept from to (suc zero) i rule w = not-both (with from i (w .0)) (rule (w .0) (w .1)) (w .2)
-register-kept from to (suc (suc kind)) i rule w = not-both (with from i (w .0)) (rule (w .0) (w .1)) (w .2)
+register-kept from to zero i rule (inl e) = not-both _ (rule .0) e
+register-kept from to zero i rule (inr w) = not-both _ (rule .1 (w .0) (w .1)) (w .2)
+register-kept from to (suc zero) i rule w = not-both _ (rule (w .0) (w .1)) (w .2)
+register-kept from to (suc (suc kind)) i rule w = not-both _ (rule (w .0) (w .1)) (w .2)
 
 module _ (l : List Record) (m : Model) (from tag kind i to : ℕ) (w : Written l m) where
   existence-faulty : edgeExists m (from ∷ tag ∷ kind ∷ i ∷ to ∷ []) ≡ false → Nonexistence l (edge from tag kind i to)
   unfolding edgeExists Nonexistence
-  existence-faulty h =
-      at
-      (not-all-of-six (ltb from (m .«state_count»)) (ltb tag tagCount) (leb kind 2) (leb 1 i) (leb i (m .registers))
-      (ltb to (m .«state_count»)) h)
+  existence-faulty h = at (not-all-of-six _ _ _ _ _ _ h)
     where
       at : (ltb from (m .«state_count») ≡ false) ⊎ (ltb tag tagCount ≡ false) ⊎ (leb kind 2 ≡ false) ⊎ (leb 1 i ≡ false)
           ⊎ (leb i (m .registers) ≡ false) ⊎ (ltb to (m .«state_count») ≡ false)
@@ -233,31 +230,22 @@ module _ (l : List Record) (m : Model) (from tag kind i to : ℕ) (w : Written l
       → Judged l (edge from tag kind i to) (edgeRefusal m (from ∷ tag ∷ kind ∷ i ∷ to ∷ []))
   unfolding edgeRefusal number Breaks HeaderFault StateFault OrderFault LimitFault PairFault
   edge-judged whole allowed =
-      check l x existence (not exists) _
+      check l x existence _ _
       (pass l x state-rule (λ b. b) (pass l x header-rule (λ b. b) (placed l x allowed)))
-      (λ e. existence-faulty (not-true exists e))
-      (λ e. existence-kept (edge-exists m from tag kind i to (not-false exists e)))
+      (λ e. existence-faulty (not-true _ e))
+      (λ e. existence-kept (edge-exists m from tag kind i to (not-false _ e)))
       (λ d below.
-      check l x register-rule (not keeps) _ below (λ e. rule-faulty (not-true keeps e))
-      (λ e. rule-obeyed whole (edge-exists m from tag kind i to (not-false exists d)) (not-false keeps e))
+      check l x register-rule _ _ below (λ e. rule-faulty (not-true _ e))
+      (λ e. rule-obeyed whole (edge-exists m from tag kind i to (not-false _ d)) (not-false _ e))
       (λ e below.
-      check l x edge-order (not above) _ below (λ e. sym (w .order from (tag ∷ kind ∷ i ∷ to ∷ [])) ∙ not-true above e)
-      (λ e h. not-both above (not-false above e) (w .order from (tag ∷ kind ∷ i ∷ to ∷ []) ∙ h)) (λ e below.
+      check l x edge-order _ _ below (λ e. sym (w .order from (tag ∷ kind ∷ i ∷ to ∷ [])) ∙ not-true _ e)
+      (λ e h. not-both _ (not-false _ e) (w .order from (tag ∷ kind ∷ i ∷ to ∷ []) ∙ h)) (λ e below.
       check l x edge-limit (leb maxEdges (m .«edge_count»)) 0 below
       (λ e. omega (arith, leb-true maxEdges (m .«edge_count») e, whole .valid .edge-places))
       (λ e h. omega (arith, leb-false maxEdges (m .«edge_count») e)) (λ e below. obeyed l x (pass l x pair-rule (λ b. b) below)))))
     where
       x : Record
       x = edge from tag kind i to
-
-      exists : Bool
-      exists = edgeExists m (from ∷ tag ∷ kind ∷ i ∷ to ∷ [])
-
-      keeps : Bool
-      keeps = keepsRule (m .registers) (setOf m from) (setOf m to) (kindOf kind i)
-
-      above : Bool
-      above = rises m (from ∷ tag ∷ kind ∷ i ∷ to ∷ [])
 
 -- ── Pairs ──
 
@@ -279,7 +267,7 @@ not-rising : (partners : List ℕ) (a : ℕ) → rising partners a ≡ false
     → (i : ℕ) × (j : ℕ) × (rightPartner partners i ≡ j) × (1 ≤ j) × (a ≤ i)
 unfolding rising rightPartner
 not-rising partners a h =
-    let w = any-index (λ x. ltb 0 x) (drop (a - 1) partners) 0 (not-false (any (λ x. ltb 0 x) (drop (a - 1) partners)) h) in (
+    let w = any-index (λ x. ltb 0 x) (drop (a - 1) partners) 0 (not-false _ h) in (
       suc (a - 1 + w .0),
       getD partners (a - 1 + w .0) 0,
       refl,
@@ -300,9 +288,9 @@ rising-above partners a i j h e p = at (decLt i a)
         let within : k < length (drop (a - 1) partners) = rw length-drop (omega arith) in
         let held : getD (drop (a - 1) partners) k 0 ≡ j = getD-drop (a - 1) partners k 0 ∙ rw place (w .3) in
         absurd
-        (not-both (any (λ x. ltb 0 x) (drop (a - 1) partners))
+        (not-both _
         (any-at (λ x. ltb 0 x) (drop (a - 1) partners) k 0 within (rw held (lt-ltb 0 j p)))
-        (not-true (any (λ x. ltb 0 x) (drop (a - 1) partners)) h))
+        (not-true _ h))
 
 -- the register set of a model's start state
 start-set : (l : List Record) (m : Model) → Written l m → setOf m (m .start) ≡ startSet l
@@ -316,10 +304,10 @@ module _ (l : List Record) (t : Task) (a b : ℕ) (left : Written (earlier l) (t
       ⊎ (any (eqb b) (t .start .partners) ≡ true)
       → PairFault l (pair a b)
   unfolding PairFault rightPartner
-  pair-faulty (inl e) = inl (rw (← start-set (earlier l) (t .left) left) (not-true (has (setOf (t .left) (t .left .start)) a) e))
-  pair-faulty (inr (inl e)) = inr (inl (rw (← start-set l (t .right) right) (not-true (has (setOf (t .right) (t .right .start)) b) e)))
+  pair-faulty (inl e) = inl (rw (← start-set (earlier l) (t .left) left) (not-true _ e))
+  pair-faulty (inr (inl e)) = inr (inl (rw (← start-set l (t .right) right) (not-true _ e)))
   pair-faulty (inr (inr (inl e))) =
-      let w = not-rising (t .start .partners) a (not-true (rising (t .start .partners) a) e) in
+      let w = not-rising (t .start .partners) a (not-true _ e) in
       inr (inr (inl (w .0, w .1, paired .read (w .0) (w .1) (w .2) (w .3), w .4)))
   pair-faulty (inr (inr (inr e))) =
       let w = any-index (eqb b) (t .start .partners) 0 e in
@@ -329,15 +317,15 @@ module _ (l : List Record) (t : Task) (a b : ℕ) (left : Written (earlier l) (t
 
   pair-kept : PairFits t a b → PairFault l (pair a b) → ⊥
   unfolding PairFault
-  pair-kept f (inl h) = not-both (has (setOf (t .left) (t .left .start)) a) (f .left) (rw (start-set (earlier l) (t .left) left) h)
-  pair-kept f (inr (inl h)) = not-both (has (setOf (t .right) (t .right .start)) b) (f .right) (rw (start-set l (t .right) right) h)
+  pair-kept f (inl h) = not-both _ (f .left) (rw (start-set (earlier l) (t .left) left) h)
+  pair-kept f (inr (inl h)) = not-both _ (f .right) (rw (start-set l (t .right) right) h)
   pair-kept f (inr (inr (inl w))) =
       let old = paired .joined (w .0) (w .1) (w .2) in
       omega (arith, rising-above (t .start .partners) a (w .0) (w .1) (f .rises) (old .1) (old .0))
   pair-kept f (inr (inr (inr w))) =
       let old = paired .joined (w .0) b (w .1) in
       let v = partner-place (t .start .partners) (w .0) b (old .1) (old .0) in
-      not-both (any (eqb b) (t .start .partners)) (any-at (eqb b) (t .start .partners) (v .0) 0 (v .2) (eq-eqb b _ (sym (v .3)))) (f .unused)
+      not-both _ (any-at (eqb b) (t .start .partners) (v .0) 0 (v .2) (eq-eqb b _ (sym (v .3)))) (f .unused)
 
   pub pair-judged : Allowed l (pair a b) → Judged l (pair a b) (pairRefusal t a b)
   unfolding pairRefusal number Breaks HeaderFault StateFault Nonexistence KindFault OrderFault LimitFault

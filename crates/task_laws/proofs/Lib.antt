@@ -1,3 +1,5 @@
+-- The laws of the task file: `read-valid` and `read-limits` (Valid), `refused-exactly`, `refused-range` and `read-exactly`
+-- (Refusals). The other files lead up to them.
 pub mod Tests
 pub mod Sets
 pub mod Arrays
@@ -7,4 +9,5 @@ pub mod Models
 pub mod Valid
 pub mod Ties
 pub mod Judging
+pub mod Steps
 pub mod Refusals

@@ -1,13 +1,12 @@
 -- What a record that passes its check adds to a model, and that the model stays valid. Assumes nothing.
-use Prim.Native.Nat.{ℕ, zero, suc, _+_, _-_, _^_, _≤_, _<_}
-use mathlib.Core.Path.{_≡_, refl, sym, _∙_, ap, subst}
-use mathlib.Core.Bool.{Bool, true, false, not, cond, _&&_, _||_}
+use Prim.Native.Nat.{ℕ, zero, suc, _+_, _-_, _≤_, _<_}
+use mathlib.Core.Path.{_≡_, refl, sym, _∙_, ap}
+use mathlib.Core.Bool.{Bool, true, false, cond}
 use mathlib.Core.List.{List, [], _∷_}
 use native.Mathlib.Omega.{arith}
-use native.Mathlib.Decide.{ℕ-discrete}
 use lib.ListN.{length, getD, set, length-set, length-replicate}
-use lib.Dec.{ltb, leb, eqb}
-use borrow.Author.Tests.{eqb-true, eqb-false, eq-eqb, ne-eqb}
+use lib.Dec.{eqb}
+use borrow.Author.Tests.{eqb-true, eqb-false, ne-eqb}
 use Rattle.fra.specs.Lists.{below}
 use Rattle.fra.specs.Registers.{has, inside, with}
 use Rattle.fra.specs.Model.{noState, noEdge, setOf, markOf, edgeOf, edgeBytes, registerOf}
@@ -17,11 +16,11 @@ use Rattle.fra.specs.declared.EdgeKind.the-variants.{Known, LocallyFresh, Globa
 use Rattle.fra.specs.declared.Edge.{Edge}
 use Rattle.fra.specs.declared.State.{State}
 use Rattle.fra.specs.declared.Model.{Model}
-use Rattle.task.specs.TaskFile.{maxRegisters, maxStates, tagCount, maxEdges, headed, withState, kindOf, edgeOfBody, keepsRule, rises, withEdge}
-use Rattle.fra_laws.proofs.Tests.{and-left, and-right, or-cases}
+use Rattle.task.specs.TaskFile.{maxRegisters, maxStates, maxEdges, headed, withState, kindOf, edgeOfBody, keepsRule, rises, withEdge}
+use Rattle.fra_laws.proofs.Tests.{and-left, and-right}
 use Rattle.task_laws.proofs.Sets.{has-below, inside-true}
 use Rattle.task_laws.proofs.Arrays.{getD-set}
-use Rattle.task_laws.proofs.Checks.{HeaderFits, StateFits, EdgeExists, EdgeFits}
+use Rattle.task_laws.proofs.Checks.{HeaderFits, StateFits, EdgeFits}
 
 -- ── What is in a model ──
 
@@ -40,7 +39,7 @@ module _ (m : Model) (q registers mark : ℕ) (fits : q < length (m .states)) (k
   unfolding setOf
   setOf-withState = ap (λ (s : State). s .set) stored ∙ cond-map (λ (s : State). s .set) (eqb q k) _ _
 
-  pub markOf-withState : markOf (withState m q registers mark) k ≡ cond (eqb q k) mark (markOf m k)
+  markOf-withState : markOf (withState m q registers mark) k ≡ cond (eqb q k) mark (markOf m k)
   unfolding markOf
   markOf-withState = ap (λ (s : State). s .mark) stored ∙ cond-map (λ (s : State). s .mark) (eqb q k) _ _
 

@@ -1,14 +1,14 @@
 -- The reader goes from record to record and halts once: `Run` and `Halt` say so without its counter. Assumes nothing.
-use Prim.Native.Nat.{ℕ, zero, suc, _+_, _≤_, _<_}
+use Prim.Native.Nat.{ℕ, zero, suc, _≤_, _<_}
 use mathlib.Core.Path.{_≡_, refl, sym, _∙_, ap, subst}
-use mathlib.Core.Logic.{_⊎_, inl, inr, ⊎-elim}
+use mathlib.Core.Logic.{_↔_, _⊎_, inl, inr, ⊎-elim}
 use mathlib.Core.Bool.{Bool, true, false, cond}
 use mathlib.Core.List.{List, [], _∷_, _++_}
 use mathlib.Core.Option.{Option, none, some}
 use native.Mathlib.Decide.{decLt}
 use native.Mathlib.Omega.{arith}
-use lib.ListN.{length, length-append}
-use lib.Dec.{ltb, eqb}
+use lib.ListN.{length}
+use lib.Dec.{eqb}
 use borrow.Author.Tests.{eqb-true, lt-ltb, le-ltb}
 use Rattle.task.specs.Records.{Record, header, state, edge, pair, end, encode, Body, of-header, of-state, of-edge, of-pair, of-end}
 use Rattle.task.specs.TaskFile
@@ -17,7 +17,7 @@ use Rattle.task.specs.declared.Stage.{Stage}
 use Rattle.task.specs.declared.Stage.the-variants.{Start, States, Edges, Pairs, Ended}
 use Rattle.task.specs.declared.Progress.{Progress}
 use Rattle.task.specs.declared.Stepped.{Stepped}
-use Rattle.task.specs.declared.Answer.the-variants.{Read, Refused}
+use Rattle.task.specs.declared.Answer.the-variants.{Read}
 use Rattle.task.specs.declared.TaskRead.{TaskRead}
 
 -- ── One record ──
@@ -47,6 +47,8 @@ pub decided-passes : (P : Progress → Type 0) (n : ℕ) (p after : Progress) �
 decided-passes P zero p after e h = h refl
 decided-passes P (suc n) p after e h = absurd (omega arith)
 
+-- ── Kinds ──
+
 -- the kind byte of a kind
 abbrev byteOf : RecordKind → ℕ
 byteOf isHeader = 1
@@ -63,9 +65,12 @@ byte-known isEdge = refl
 byte-known isPair = refl
 byte-known isEnd = refl
 
+none-not-some : {o : Option RecordKind} {k : RecordKind} → o ≡ none → o ≡ some k → ⊥
+none-not-some p q = let z : _≡_ {A = ℕ} 0 1 = cc in omega arith
+
 known-byte : (b : ℕ) (k : RecordKind) → recordKind b ≡ some k → b ≡ byteOf k
 unfolding recordKind
-known-byte b k = one isHeader (one isState (one isEdge (one isPair (one isEnd never))))
+known-byte b k = one isHeader (one isState (one isEdge (one isPair (one isEnd (λ e. absurd (none-not-some refl e))))))
   where
     one : (j : RecordKind) {o : Option RecordKind} → (o ≡ some k → b ≡ byteOf k)
         → cond (eqb b (byteOf j)) (some j) o ≡ some k → b ≡ byteOf k
@@ -74,9 +79,6 @@ known-byte b k = one isHeader (one isState (one isEdge (one isPair (one isEnd ne
         at : (t : Bool) → eqb b (byteOf j) ≡ t → cond t (some j) o ≡ some k → b ≡ byteOf k
         at true e h = let same : j ≡ k = cc in eqb-true b (byteOf j) e ∙ ap byteOf same
         at false e h = rest h
-
-    never : _≡_ {A = Option RecordKind} none (some k) → b ≡ byteOf k
-    never e = let z : _≡_ {A = ℕ} 0 1 = cc in absurd (omega arith)
 
 -- a kind has its byte and its length, as 01 lists them
 pub kind-body : (b : ℕ) (k : RecordKind) → recordKind b ≡ some k → Body b (bodyLength k)
@@ -97,6 +99,14 @@ body-kind of-state = (isState, byte-known isState, refl)
 body-kind of-edge = (isEdge, byte-known isEdge, refl)
 body-kind of-pair = (isPair, byte-known isPair, refl)
 body-kind of-end = (isEnd, byte-known isEnd, refl)
+
+-- a byte is of no kind exactly if it begins no record
+pub unknown-kind : (b : ℕ) → (recordKind b ≡ none) ↔ ((n : ℕ) → Body b n → ⊥)
+unknown-kind b = (λ e n body. none-not-some e (body-kind body .1), λ h. at (recordKind b) refl h)
+  where
+    at : (o : Option RecordKind) → recordKind b ≡ o → ((n : ℕ) → Body b n → ⊥) → recordKind b ≡ none
+    at none e h = e
+    at (some k) e h = absurd (h (bodyLength k) (kind-body b k e))
 
 -- what stands next in a file
 data Next : List ℕ → Type 0 where
@@ -168,10 +178,6 @@ read-record n p (edge from tag kind i to) rest =
     rw (le-ltb (length (from ∷ tag ∷ kind ∷ i ∷ to ∷ rest)) 5 (omega arith), readRest)
 read-record n p (pair a b) rest = rw (le-ltb (length (a ∷ b ∷ rest)) 2 (omega arith), readRest)
 read-record n p end rest = rw (le-ltb (length rest) 0 (omega arith), readRest)
-
-read-on : (n : ℕ) (p : Progress) (x : Record) (rest : List ℕ) → stepOf x p .refusal ≡ 0
-    → readRest (suc n) p (encode x ++ rest) ≡ readRest n (stepOf x p .progress) rest
-read-on n p x rest e = read-record n p x rest ∙ rw (e, going)
 
 -- the end record was read, or the file's end is refused
 at-end : (p : Progress) (stage : Stage) → (stage ≡ Ended) ⊎ ((stage ≡ Ended → ⊥) × (atEnd p stage ≡ refused 2))
@@ -250,3 +256,19 @@ halts file = from (suc (length file)) begin (omega arith)
             by-refusal : (k : ℕ) → stepOf x p .refusal ≡ k → Halting file
             by-refusal zero e = on x rest (onward x run e) (omega (arith, record-shortens x rest))
             by-refusal (suc k) e = stop run (broken x rest k e)
+
+-- a file that is read: its last record is the end
+pub read-halt : (file : List ℕ) → readTask file .answer ≡ Read
+    → (p : Progress) × Run file p [] × (p .stage ≡ Ended) × (readTask file .task ≡ p .task)
+read-halt file e = let h = halts file in at (h .run) (h .halt) e
+  where
+    never : (n : ℕ) {A : Type 0} → refused n .answer ≡ Read → A
+    never n e = let z : _≡_ {A = ℕ} 0 1 = cc in absurd (omega arith)
+
+    at : {p : Progress} {l : List ℕ} {r : TaskRead} → Run file p l → Halt p l r → r .answer ≡ Read
+        → (q : Progress) × Run file q [] × (q .stage ≡ Ended) × (r .task ≡ q .task)
+    at {p} run (ended d) e = (p, run, d, refl)
+    at run (unended d) e = never 2 e
+    at run (unknown b l k) e = never 1 e
+    at run (cut b l k d f) e = never 2 e
+    at run (broken x rest n d) e = never (suc n) e

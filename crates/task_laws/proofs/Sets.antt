@@ -1,17 +1,16 @@
 -- Register sets: which registers a set below a power of two may have, and what the test `inside` says. Assumes nothing.
-use Prim.Native.Nat.{ℕ, zero, suc, _+_, _*_, _/_, _%_, _^_, _≤_, _<_}
-use mathlib.Core.Path.{_≡_, refl, sym, _∙_, ap}
+use Prim.Native.Nat.{ℕ, zero, suc, _+_, _/_, _%_, _^_, _≤_, _<_}
+use mathlib.Core.Path.{_≡_, refl}
 use mathlib.Core.Bool.{Bool, true, false, not, _||_, false≢true}
-use native.Mathlib.Nat.{div-eq-of-lt, div-eq-of-lt-le, two-pow-succ, pow-le-pow-right, one-le-pow, add-zero}
+use native.Mathlib.Nat.{div-eq-of-lt, div-eq-of-lt-le, pow-le-pow-right, one-le-pow}
 use native.Mathlib.Decide.{decLt}
 use native.Mathlib.Omega.{arith}
-use lib.Dec.{eqb}
 use borrow.Author.Tests.{eqb-true, not-false}
-use Rattle.fra.specs.Lists.{_∈_, all, count}
+use Rattle.fra.specs.Lists.{count}
 use Rattle.fra.specs.Registers.{has, inside}
 use Rattle.fra.specs.Valid.{Inside}
 use Rattle.task.specs.Records.{Outside}
-use Rattle.fra_laws.proofs.Tests.{or-cases, or-false-left, or-false-right, not-both}
+use Rattle.fra_laws.proofs.Tests.{or-false-left, or-false-right}
 use Rattle.fra_laws.proofs.Lists.{all-at, all-counterexample, count-intro}
 
 -- registers are numbered from 1

@@ -1,14 +1,13 @@
 -- What is read so far says what the records read so far say. Assumes nothing.
-use Prim.Native.Nat.{ℕ, zero, suc, _+_, _-_, _≤_, _<_}
-use mathlib.Core.Path.{_≡_, refl, sym, _∙_, ap, subst}
+use Prim.Native.Nat.{ℕ, zero, suc, _-_, _≤_, _<_}
+use mathlib.Core.Path.{_≡_, refl, sym, _∙_, ap}
 use mathlib.Core.Logic.{_⊎_, inl, inr, ⊎-elim}
-use mathlib.Core.Bool.{Bool, true, false, not, cond, _&&_, _||_}
-use mathlib.Core.List.{List, [], _∷_, List·Memᴰ·head, List·Memᴰ·tail, List·Memᴰ·not-nil, List·Memᴰ·cases-cons}
+use mathlib.Core.Bool.{Bool, true, false, cond}
+use mathlib.Core.List.{List, [], _∷_, List·Memᴰ·head, List·Memᴰ·tail, List·Memᴰ·cases-cons}
 use native.Mathlib.Omega.{arith}
-use native.Mathlib.Decide.{ℕ-discrete, decLt}
-use lib.ListN.{length, getD, set, replicate, drop}
-use lib.Dec.{ltb, leb, eqb, eqb·suc-zero, eqb·suc-suc}
-use borrow.Author.Tests.{eqb-true, eqb-false, eq-eqb, ne-eqb}
+use lib.ListN.{length, getD, set, replicate}
+use lib.Dec.{eqb, eqb·suc-zero, eqb·suc-suc}
+use borrow.Author.Tests.{eqb-true, eq-eqb, ne-eqb}
 use Rattle.fra.specs.Lists.{_∈_, below}
 use Rattle.fra.specs.Model.{noState, setOf, edgeOf, edgeBytes}
 use Rattle.fra.specs.Rules.{modelOf}
@@ -19,7 +18,7 @@ use Rattle.fra.specs.declared.Task.{Task}
 use Rattle.fra.specs.declared.Side.{Side}
 use Rattle.fra.specs.declared.Side.the-variants.{Left, Right}
 use Rattle.task.specs.Records.{Record, header, state, edge, pair, end, headers, earlier, registers, states, start, statesRead, edgesRead, lastEdge, setIn, Complete, NoPair, NoEnd}
-use Rattle.task.specs.TaskFile.{maxStates, headed, withState, edgeOfBody, rises, withEdge, withPair}
+use Rattle.task.specs.TaskFile.{maxStates, headed, withState, edgeOfBody, rises, withEdge}
 use Rattle.task.specs.declared.Stage.{Stage}
 use Rattle.task.specs.declared.Stage.the-variants.{Start, States, Edges, Pairs, Ended}
 use Rattle.task.specs.declared.Progress.{Progress}
@@ -164,29 +163,67 @@ abbrev pub headersOf : Side → ℕ
 headersOf Left = 1
 headersOf Right = 2
 
+-- state q of a side is due
+pub record InStates (s : Side) (q : ℕ) (l : List Record) : Type 0 where
+  pub side : headers l ≡ headersOf s
+  pub read : statesRead l ≡ q
+  pub due : q < states l
+  pub no-pair : NoPair l
+  pub no-end : NoEnd l
+
+-- the states of a side are read
+pub record InEdges (s : Side) (l : List Record) : Type 0 where
+  pub side : headers l ≡ headersOf s
+  pub complete : Complete l
+  pub no-pair : NoPair l
+  pub no-end : NoEnd l
+
+-- a pair is read
+pub record InPairs (l : List Record) : Type 0 where
+  pub side : headers l ≡ 2
+  pub complete : Complete l
+  pub some-pair : (a : ℕ) × (b : ℕ) × (pair a b ∈ l)
+  pub no-end : NoEnd l
+
+-- the end is read
+pub record AtEnd (l : List Record) : Type 0 where
+  pub side : headers l ≡ 2
+  pub complete : Complete l
+  pub last : (k : List Record) × (l ≡ end ∷ k)
+
 -- what a stage says of the records read so far
-abbrev pub Reached : Stage → List Record → Type 0
-Reached Start l = l ≡ []
-Reached (States s q) l = (headers l ≡ headersOf s) × (statesRead l ≡ q) × (q < states l) × NoPair l × NoEnd l
-Reached (Edges s) l = (headers l ≡ headersOf s) × Complete l × NoPair l × NoEnd l
-Reached Pairs l = (headers l ≡ 2) × Complete l × ((a : ℕ) × (b : ℕ) × (pair a b ∈ l)) × NoEnd l
-Reached Ended l = (headers l ≡ 2) × Complete l × ((k : List Record) × (l ≡ end ∷ k))
+abbrev pub AtStage : Stage → List Record → Type 0
+AtStage Start l = l ≡ []
+AtStage (States s q) l = InStates s q l
+AtStage (Edges s) l = InEdges s l
+AtStage Pairs l = InPairs l
+AtStage Ended l = AtEnd l
+
+-- while the right model is read: the left one, and the pairs
+pub record LeftAndPairs (l : List Record) (t : Task) : Type 0 where
+  pub left : Written (earlier l) (t .left)
+  pub paired : Paired l (t .start .partners)
 
 -- beside the model that is being read
 abbrev pub Beside : Side → List Record → Task → Type 0
 Beside Left l t = Unit {0}
-Beside Right l t = Written (earlier l) (t .left) × Paired l (t .start .partners)
+Beside Right l t = LeftAndPairs l t
 
--- the task is what the records say
-abbrev pub Says : Stage → List Record → Task → Type 0
-Says Start l t = Unit {0}
-Says (States s q) l t = Written l (modelOf t s) × Beside s l t
-Says (Edges s) l t = Written l (modelOf t s) × Beside s l t
-Says Pairs l t = Written l (t .right) × Beside Right l t
-Says Ended l t = Written l (t .right) × Beside Right l t
+-- the task is what the records say, up to a side's model
+pub record Says (s : Side) (l : List Record) (t : Task) : Type 0 where
+  pub model : Written l (modelOf t s)
+  pub beside : Beside s l t
 
-abbrev pub TiedAt : Stage → List Record → Task → Type 0
-TiedAt stage l t = Reached stage l × Says stage l t
+abbrev pub SaysAt : Stage → List Record → Task → Type 0
+SaysAt Start l t = Unit {0}
+SaysAt (States s q) l t = Says s l t
+SaysAt (Edges s) l t = Says s l t
+SaysAt Pairs l t = Says Right l t
+SaysAt Ended l t = Says Right l t
+
+pub record TiedAt (stage : Stage) (l : List Record) (t : Task) : Type 0 where
+  pub at-stage : AtStage stage l
+  pub says : SaysAt stage l t
 
 abbrev pub Tied : List Record → Progress → Type 0
 Tied l p = TiedAt (p .stage) l (p .task)

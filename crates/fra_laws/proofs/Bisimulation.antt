@@ -68,6 +68,6 @@ module _ (g : Rules) (r : ℕ) (t : Task) where
   pub never-lost-exactly : (l : List Position) → Closed g t l → ((p : Position) → p ∈ l → legal r t p ≡ true)
       → (p : Position) → p ∈ l → NeverLost g t p ↔ ((R : Position → Type 0) × Bisimulation g r t R × R p)
   never-lost-exactly l c h p m = (
-    λ never. (_, kept-bisimulation l c h, kept-never-lost g t l c p .1 (m, never)),
+    λ never. let (b, i) = never-lost-in-bisimulation l c h p m never in (_, b, i),
     λ (R, b, i). bisimulation-never-lost R b p i,
   )

@@ -15,7 +15,7 @@ use Rattle.fra.specs.declared.Task.{Task}
 use Rattle.fra.specs.declared.Side.the-variants.{Left, Right}
 use Rattle.fra_laws.proofs.Lists.{flatMap-intro, count-intro}
 use Rattle.fra_laws.proofs.Lengths.{count-length, flatMap-length, picks, picks-length, picks-rest, picks-intro, unique-length}
-use Rattle.fra_laws.proofs.Legal.{Legal, legal-facts}
+use Rattle.fra_laws.proofs.Legal.{registers-exist, Legal, legal-facts}
 
 -- the number of ways to give each of n left registers a right one among u, or none, and no right register twice
 unfoldable pub injections : ℕ → ℕ → ℕ
@@ -96,9 +96,8 @@ positions-intro {r} {t} valid {p} l =
 
     free : (k : ℕ) → 1 ≤ getD (p .partners) k 0 → getD (p .partners) k 0 ∈ count 1 r
     free k h =
-        let x : ℕ = getD (p .partners) k 0 in
-        let a = valid .right .states (p .right) (l .exists Right) .existing x (l .matches .right-has (suc k) h) in
-        count-intro 1 r x h (omega (arith, valid .right .registers))
+        let (a, b) = registers-exist (valid .right) (p .right) _ (l .exists Right) (l .matches .right-has (suc k) h) in
+        count-intro 1 r (getD (p .partners) k 0) a (omega arith)
 
     once : (k j : ℕ) → 1 ≤ getD (p .partners) k 0 → getD (p .partners) k 0 ≡ getD (p .partners) j 0 → k ≡ j
     once k j h e = suc-inj (l .matches .injective (suc k) (suc j) h e)

@@ -3,26 +3,41 @@
 use Prim.Native.Nat.{ℕ, _≤_, _<_}
 use mathlib.Core.Path.{_≡_, subst}
 use mathlib.Core.Bool.{true}
-use mathlib.Core.List.{_++_, map, Memᴰ·of-map}
+use mathlib.Core.List.{map, Memᴰ·of-map}
+use native.Mathlib.Omega.{arith}
 use lib.ListN.{length}
 use borrow.Author.Tests.{ltb-true, lt-ltb, eqb-true, eq-eqb}
-use Rattle.fra.specs.Lists.{_∈_, count}
+use Rattle.fra.specs.Lists.{_∈_}
 use Rattle.fra.specs.Registers.{has}
 use Rattle.fra.specs.Model.{setOf, registerOf}
 use Rattle.fra.specs.Rules.{Rules, other, leftOf, rightOf, modelOf}
-use Rattle.fra.specs.Position.{stateOf, filled, partner, rightPartner, leftPartner, legal}
-use Rattle.fra.specs.Game.{attackEdge, replyEdge, isAttack, named, attacks, isReply, replies, moved, after}
+use Rattle.fra.specs.Position.{stateOf, filled, partner, leftPartner, legal}
+use Rattle.fra.specs.Game.{attackEdge, replyEdge, attacks, replies, moved, after}
 use Rattle.fra.specs.Reach.{successors}
 use Rattle.fra.specs.Valid.{ValidModel, Valid}
 use Rattle.fra.specs.declared.Edge.{Edge}
+use Rattle.fra.specs.declared.Model.{Model}
 use Rattle.fra.specs.declared.Position.{Position}
 use Rattle.fra.specs.declared.Task.{Task}
 use Rattle.fra.specs.declared.Side.{Side}
 use Rattle.fra.specs.declared.Side.the-variants.{Left, Right}
 use Rattle.fra.specs.declared.Attack.{Attack}
 use Rattle.fra_laws.proofs.Tests.{and-left, and-right}
-use Rattle.fra_laws.proofs.Lists.{keep-elim, flatMap-elim}
-use Rattle.fra_laws.proofs.Registers.{Matching, matching-facts, matching-intro, right-of-left, left-of-right, matched-length, matched-matching}
+use Rattle.fra_laws.proofs.Lists.{flatMap-elim}
+use Rattle.fra_laws.proofs.Registers.{has-positive, Matching, matching-facts, matching-intro, left-partner-sound, right-of-left, left-of-right, matched-length, matched-matching}
+use Rattle.fra_laws.proofs.Attacks.{attack-at, reply-at}
+
+-- ── Valid models ──
+
+pub valid-side : {r : ℕ} {t : Task} → Valid r t → (s : Side) → ValidModel r (modelOf t s)
+valid-side valid Left = valid .left
+valid-side valid Right = valid .right
+
+-- the registers of a state's set are 1 to r
+pub registers-exist : {r : ℕ} {m : Model} → ValidModel r m → (q i : ℕ) → q < m .«state_count» → has (setOf m q) i ≡ true
+    → (1 ≤ i) × (i ≤ r)
+registers-exist {m = m} v q i h e =
+    (has-positive (setOf m q) i e, omega (arith, v .states q h .existing i e, v .registers))
 
 -- ── Legal positions ──
 
@@ -61,8 +76,7 @@ pub partner-mutual : {r : ℕ} {t : Task} {p : Position} → Legal r t p → (s 
 unfolding partner
 partner-mutual {p = p} l Left i j h e =
     subst (λ k. leftPartner 1 (p .partners) k ≡ i) e (left-of-right (l .matches) i (rw e h))
-partner-mutual {p = p} l Right i j h e =
-    subst (λ k. rightPartner (p .partners) k ≡ i) e (right-of-left (p .partners) i (rw e h))
+partner-mutual {p = p} l Right i j h e = left-partner-sound (p .partners) j i h e
 
 -- a register with a partner is filled, and so is its partner
 pub partner-filled : {r : ℕ} {t : Task} {p : Position} → Legal r t p → (s : Side) (i : ℕ) → 1 ≤ i → 1 ≤ partner p s i
@@ -78,17 +92,11 @@ partner-filled {p = p} l Right i a h =
 
 pub attack-edge-exists : (g : Rules) (t : Task) (p : Position) (a : Attack) → a ∈ attacks g t p
     → a .edge < modelOf t (a .side) .«edge_count»
-unfolding attacks isAttack
-attack-edge-exists g t p a m =
-    let w = keep-elim (isAttack g t p) a (named (length (p .partners)) t Left ++ named (length (p .partners)) t Right) m .1 in
-    ltb-true (a .edge) (modelOf t (a .side) .«edge_count») (search (and-left, and-right))
+attack-edge-exists g t p a m = attack-at g t p a m .exists
 
 pub reply-edge-exists : (t : Task) (p : Position) (a : Attack) (k : ℕ) → k ∈ replies t p a
     → k < modelOf t (other (a .side)) .«edge_count»
-unfolding replies isReply
-reply-edge-exists t p a k m =
-    let w = keep-elim (isReply t p a) k (count 0 (modelOf t (other (a .side)) .«edge_count»)) m .1 in
-    ltb-true k (modelOf t (other (a .side)) .«edge_count») (search (and-left, and-right))
+reply-edge-exists t p a k m = reply-at t p a k m .exists
 
 -- a left and a right edge into states that exist
 pub moved-legal : {r : ℕ} {t : Task} {p : Position} → Legal r t p → (l e : Edge) → l .to < t .left .«state_count»
@@ -108,10 +116,6 @@ moved-legal {t = t} {p = p} h l e a b =
     exists Right = b
 
 module _ {r : ℕ} {t : Task} (valid : Valid r t) where
-  pub valid-side : (s : Side) → ValidModel r (modelOf t s)
-  valid-side Left = valid .left
-  valid-side Right = valid .right
-
   -- an attack and a reply lead from a legal position to a legal one
   pub after-legal : (g : Rules) (p : Position) (a : Attack) (k : ℕ) → legal r t p ≡ true → a ∈ attacks g t p
       → k ∈ replies t p a → legal r t (after t p a k) ≡ true
@@ -119,8 +123,8 @@ module _ {r : ℕ} {t : Task} (valid : Valid r t) where
   after-legal g p a k h m n =
       legal-intro r t (after t p a k)
       (step (a .side) (attackEdge t a) (replyEdge t a k)
-      (valid-side (a .side) .edges (a .edge) (attack-edge-exists g t p a m) .to)
-      (valid-side (other (a .side)) .edges k (reply-edge-exists t p a k n) .to))
+      (valid-side valid (a .side) .edges (a .edge) (attack-edge-exists g t p a m) .to)
+      (valid-side valid (other (a .side)) .edges k (reply-edge-exists t p a k n) .to))
     where
       step : (s : Side) (own others : Edge) → own .to < modelOf t s .«state_count»
           → others .to < modelOf t (other s) .«state_count»

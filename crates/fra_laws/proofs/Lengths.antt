@@ -1,11 +1,13 @@
 -- Counting in lists: lengths, lists without duplicates, and the pigeonhole principle. Assumes nothing.
-use Prim.Native.Nat.{ℕ, zero, suc, _*_, _≤_}
+use Prim.Native.Nat.{ℕ, zero, suc, _*_, _≤_, _<_}
 use mathlib.Core.Path.{_≡_, refl, sym, _∙_, ap}
 use mathlib.Core.Logic.{_⊎_, inl, inr, ⊎-elim}
+use mathlib.Core.Bool.{Bool, true, false}
 use mathlib.Core.List.{List, [], _∷_, map, flatMap, List·Memᴰ·head, List·Memᴰ·tail, List·Memᴰ·not-nil, List·Memᴰ·cases-cons, Memᴰ·cast, Memᴰ·map, Memᴰ·of-map}
 use native.Mathlib.Omega.{arith}
 use lib.ListN.{length, length-append, length-map}
-use Rattle.fra.specs.Lists.{_∈_, Unique, count}
+use Rattle.fra.specs.Lists.{_∈_, Unique, keep, count}
+use Rattle.fra_laws.proofs.Lists.{keep-passes, keep-fails, count-elim}
 
 -- ── Lengths ──
 
@@ -13,6 +15,24 @@ pub count-length : (i n : ℕ) → length (count i n) ≡ n
 unfolding count
 count-length i zero = refl
 count-length i (suc n) = ap suc (count-length (suc i) n)
+
+pub count-unique : (i n : ℕ) → Unique (count i n)
+unfolding count
+count-unique i zero = tt
+count-unique i (suc n) = (λ m. let h = count-elim (suc i) n i m in omega arith, count-unique (suc i) n)
+
+-- a test keeps fewer elements than there are, or all
+pub keep-shortens : {A : Type 0} (f : A → Bool) (l : List A) → (length (keep f l) < length l) ⊎ (keep f l ≡ l)
+unfolding keep
+keep-shortens f [] = inr refl
+keep-shortens {A} f (x ∷ xs) = step (f x) refl (keep-shortens f xs)
+  where
+    step : (b : Bool) → f x ≡ b → (length (keep f xs) < length xs) ⊎ (keep f xs ≡ xs)
+        → (length (keep f (x ∷ xs)) < suc (length xs)) ⊎ (keep f (x ∷ xs) ≡ x ∷ xs)
+    step true e (inl r) = inl (rw (keep-passes f x xs e) (omega arith))
+    step true e (inr r) = inr (keep-passes f x xs e ∙ ap (λ (l : List A). x ∷ l) r)
+    step false e (inl r) = inl (rw (keep-fails f x xs e) (omega arith))
+    step false e (inr r) = inl (rw (keep-fails f x xs e, r) (omega arith))
 
 module _ {A B : Type 0} where
   pub flatMap-length : (f : A → List B) (l : List A) (n : ℕ) → ((a : A) → a ∈ l → length (f a) ≡ n)

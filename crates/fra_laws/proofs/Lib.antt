@@ -4,6 +4,7 @@ pub mod Lengths
 pub mod Order
 pub mod Closure
 pub mod Registers
+pub mod Attacks
 pub mod Legal
 pub mod Count
 pub mod Reached

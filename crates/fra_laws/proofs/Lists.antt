@@ -2,27 +2,30 @@
 use Prim.Native.Nat.{ℕ, zero, suc, _+_, _≤_, _<_}
 use mathlib.Core.Path.{_≡_, refl, sym, _∙_, ap, subst}
 use mathlib.Core.Logic.{_⊎_, inl, inr, ⊎-elim}
-use mathlib.Core.Bool.{Bool, true, false, _&&_, _||_, false≢true, true≢false}
-use mathlib.Core.List.{List, [], _∷_, _++_, map, flatMap, List·Memᴰ·head, List·Memᴰ·tail, List·Memᴰ·not-nil, List·Memᴰ·cases-cons, List·Memᴰ·append-cases, Memᴰ·append-left, Memᴰ·append-right, Memᴰ·map, Memᴰ·of-map}
+use mathlib.Core.Bool.{Bool, true, false, false≢true, true≢false}
+use mathlib.Core.List.{List, [], _∷_, flatMap, List·Memᴰ·head, List·Memᴰ·tail, List·Memᴰ·not-nil, List·Memᴰ·cases-cons, List·Memᴰ·append-cases, Memᴰ·append-left, Memᴰ·append-right, Memᴰ·cast}
 use mathlib.Core.Option.{Option, none, some}
 use native.Mathlib.Omega.{arith}
 use native.Mathlib.Decide.{ℕ-discrete}
+use lib.Dec.{eqb}
+use borrow.Author.Tests.{eqb-true, eq-eqb}
 use Rattle.fra.specs.Lists.{_∈_, any, all, keep, first, count, least}
-use Rattle.fra_laws.proofs.Tests.{and-left, and-right, and-intro, and-false, or-cases, or-left, or-right, or-false-left, or-false-right, not-both}
+use Rattle.fra_laws.proofs.Tests.{and-left, and-right, and-intro, and-false, or-cases, or-left, or-right, not-both}
 
 module _ {A : Type 0} where
   -- ── any, all ──
+
+  -- some element has the property: the first one, or one of the others
+  some-cons : (P : A → Type 0) {R : Type 0} (x : A) (xs : List A) → (R → (y : A) × (y ∈ xs) × P y) → P x ⊎ R
+      → (y : A) × (y ∈ x ∷ xs) × P y
+  some-cons P x xs rest (inl p) = (x, List·Memᴰ·head refl, p)
+  some-cons P x xs rest (inr r) = let (y, m, p) = rest r in (y, List·Memᴰ·tail m, p)
 
   -- some element passes a test that passes at some element
   pub any-witness : (f : A → Bool) (l : List A) → any f l ≡ true → (x : A) × (x ∈ l) × (f x ≡ true)
   unfolding any
   any-witness f [] h = absurd (false≢true h)
-  any-witness f (x ∷ xs) h = step (any-witness f xs) (or-cases (f x) (any f xs) h)
-    where
-      step : (any f xs ≡ true → (y : A) × (y ∈ xs) × (f y ≡ true)) → (f x ≡ true) ⊎ (any f xs ≡ true)
-          → (y : A) × (y ∈ x ∷ xs) × (f y ≡ true)
-      step rest (inl e) = (x, List·Memᴰ·head refl, e)
-      step rest (inr e) = let w = rest e in (w .0, List·Memᴰ·tail (w .1), w .2)
+  any-witness f (x ∷ xs) h = some-cons (λ y. f y ≡ true) x xs (any-witness f xs) (or-cases (f x) (any f xs) h)
 
   pub any-intro : (f : A → Bool) {x : A} {l : List A} → x ∈ l → f x ≡ true → any f l ≡ true
   unfolding any
@@ -48,12 +51,8 @@ module _ {A : Type 0} where
   pub all-counterexample : (f : A → Bool) (l : List A) → all f l ≡ false → (x : A) × (x ∈ l) × (f x ≡ false)
   unfolding all
   all-counterexample f [] h = absurd (true≢false h)
-  all-counterexample f (x ∷ xs) h = step (all-counterexample f xs) (and-false (f x) (all f xs) h)
-    where
-      step : (all f xs ≡ false → (y : A) × (y ∈ xs) × (f y ≡ false)) → (f x ≡ false) ⊎ (all f xs ≡ false)
-          → (y : A) × (y ∈ x ∷ xs) × (f y ≡ false)
-      step rest (inl e) = (x, List·Memᴰ·head refl, e)
-      step rest (inr e) = let w = rest e in (w .0, List·Memᴰ·tail (w .1), w .2)
+  all-counterexample f (x ∷ xs) h =
+      some-cons (λ y. f y ≡ false) x xs (all-counterexample f xs) (and-false (f x) (all f xs) h)
 
   -- ── keep ──
 
@@ -139,12 +138,16 @@ module _ {A B : Type 0} where
   pub flatMap-elim : (f : A → List B) (l : List A) {b : B} → b ∈ flatMap f l → (a : A) × (a ∈ l) × (b ∈ f a)
   unfolding flatMap
   flatMap-elim f [] m = absurd (List·Memᴰ·not-nil m)
-  flatMap-elim f (x ∷ xs) {b} m = step (λ (n : b ∈ flatMap f xs). flatMap-elim f xs n) (List·Memᴰ·append-cases (f x) m)
-    where
-      step : (b ∈ flatMap f xs → (a : A) × (a ∈ xs) × (b ∈ f a)) → (b ∈ f x) ⊎ (b ∈ flatMap f xs)
-          → (a : A) × (a ∈ x ∷ xs) × (b ∈ f a)
-      step rest (inl n) = (x, List·Memᴰ·head refl, n)
-      step rest (inr n) = let w = rest n in (w .0, List·Memᴰ·tail (w .1), w .2)
+  flatMap-elim f (x ∷ xs) {b} m =
+      some-cons (λ a. b ∈ f a) x xs (λ (n : b ∈ flatMap f xs). flatMap-elim f xs n) (List·Memᴰ·append-cases (f x) m)
+
+-- ── Numbers that stand in a list ──
+
+pub any-equal : (n : ℕ) (l : List ℕ) → any (eqb n) l ≡ true → n ∈ l
+any-equal n l e = let (k, m, q) = any-witness (eqb n) l e in Memᴰ·cast (eqb-true n k q) m
+
+pub none-equal : (n : ℕ) (l : List ℕ) → any (eqb n) l ≡ false → n ∈ l → ⊥
+none-equal n l e m = any-none (eqb n) e m (eq-eqb n n refl)
 
 -- ── count ──
 

@@ -1,16 +1,16 @@
 -- The order of strings is a strict total order, and so is that of positions by their bytes. Assumes nothing.
-use Prim.Native.Nat.{ℕ, zero, suc, _<_}
-use mathlib.Core.Path.{_≡_, refl, sym, _∙_, ap, ap₂, subst}
-use mathlib.Core.Logic.{_⊎_, inl, inr, ⊎-elim}
-use mathlib.Core.Bool.{Bool, true, false, _&&_, _||_, false≢true, true≢false}
+use Prim.Native.Nat.{ℕ, _<_}
+use mathlib.Core.Path.{_≡_, refl, sym, _∙_, ap₂}
+use mathlib.Core.Logic.{_⊎_, inl, inr}
+use mathlib.Core.Bool.{true, false, _&&_, _||_, false≢true, true≢false}
 use mathlib.Core.List.{List, [], _∷_}
 use native.Mathlib.Omega.{arith}
 use lib.Dec.{ltb, eqb}
-use borrow.Author.Tests.{ltb-true, ltb-false, eqb-true, eqb-false, lt-ltb, le-ltb, eq-eqb, ne-eqb}
+use borrow.Author.Tests.{ltb-true, ltb-false, eqb-true, lt-ltb, le-ltb, eq-eqb}
 use Rattle.fra.specs.Lists.{below, equal}
 use Rattle.fra.specs.Position.{bytes, before}
 use Rattle.fra.specs.declared.Position.{Position}
-use Rattle.fra_laws.proofs.Tests.{and-left, and-right, and-intro, or-cases, or-left, or-right, or-false-left, or-false-right, not-both, passes-or-fails, fails-unless}
+use Rattle.fra_laws.proofs.Tests.{and-left, and-right, and-intro, or-cases, or-left, or-right, or-false-left, or-false-right, not-both, fails-unless}
 
 -- ── equal ──
 
@@ -25,8 +25,7 @@ equal-sound [] [] h = refl
 equal-sound [] (y ∷ m) h = absurd (false≢true h)
 equal-sound (x ∷ l) [] h = absurd (false≢true h)
 equal-sound (x ∷ l) (y ∷ m) h =
-    ap₂ (λ (a : ℕ) (b : List ℕ). a ∷ b) (eqb-true x y (and-left (eqb x y) (equal l m) h))
-    (equal-sound l m (and-right (eqb x y) (equal l m) h))
+    ap₂ (λ (a : ℕ) (b : List ℕ). a ∷ b) (eqb-true x y (search and-left)) (equal-sound l m (search and-right))
 
 -- ── below ──
 
@@ -45,27 +44,20 @@ below-transitive (x ∷ l) (y ∷ m) [] p q = absurd (false≢true q)
 below-transitive (x ∷ l) (y ∷ m) (z ∷ n) p q =
     step (or-cases (ltb x y) (eqb x y && below l m) p) (or-cases (ltb y z) (eqb y z && below m n) q) (below-transitive l m n)
   where
+    less : x < z → (ltb x z || (eqb x z && below l n)) ≡ true
+    less h = or-left (ltb x z) (eqb x z && below l n) (lt-ltb x z h)
+
     step : (ltb x y ≡ true) ⊎ ((eqb x y && below l m) ≡ true) → (ltb y z ≡ true) ⊎ ((eqb y z && below m n) ≡ true)
         → (below l m ≡ true → below m n ≡ true → below l n ≡ true)
         → (ltb x z || (eqb x z && below l n)) ≡ true
-    step (inl a) (inl b) rest =
-        let d = ltb-true x y a in
-        let e = ltb-true y z b in
-        or-left (ltb x z) (eqb x z && below l n) (lt-ltb x z (omega arith))
-    step (inl a) (inr b) rest =
-        let d = ltb-true x y a in
-        let e = eqb-true y z (and-left (eqb y z) (below m n) b) in
-        or-left (ltb x z) (eqb x z && below l n) (lt-ltb x z (omega arith))
-    step (inr a) (inl b) rest =
-        let d = eqb-true x y (and-left (eqb x y) (below l m) a) in
-        let e = ltb-true y z b in
-        or-left (ltb x z) (eqb x z && below l n) (lt-ltb x z (omega arith))
+    step (inl a) (inl b) rest = less (omega (arith, ltb-true x y a, ltb-true y z b))
+    step (inl a) (inr b) rest = let e = eqb-true y z (search and-left) in less (omega (arith, ltb-true x y a))
+    step (inr a) (inl b) rest = let d = eqb-true x y (search and-left) in less (omega (arith, ltb-true y z b))
     step (inr a) (inr b) rest =
-        let d = eqb-true x y (and-left (eqb x y) (below l m) a) in
-        let e = eqb-true y z (and-left (eqb y z) (below m n) b) in
+        let d = eqb-true x y (search and-left) in
+        let e = eqb-true y z (search and-left) in
         or-right (ltb x z) (eqb x z && below l n)
-        (and-intro (eqb x z) (below l n) (eq-eqb x z (d ∙ e))
-        (rest (and-right (eqb x y) (below l m) a) (and-right (eqb y z) (below m n) b)))
+        (and-intro (eqb x z) (below l n) (eq-eqb x z (d ∙ e)) (rest (search and-right) (search and-right)))
 
 pub below-asymmetric : (l m : List ℕ) → below l m ≡ true → below m l ≡ false
 below-asymmetric l m p =

@@ -3,7 +3,7 @@
 use Prim.Native.Nat.{ℕ, zero, suc, _+_, _≤_, _<_}
 use mathlib.Core.Path.{_≡_, refl, sym, _∙_, ap}
 use mathlib.Core.Logic.{_⊎_, inl, inr}
-use mathlib.Core.Bool.{Bool, true, false, not, _&&_}
+use mathlib.Core.Bool.{Bool, true, false, not, _&&_, false≢true}
 use mathlib.Core.List.{List, [], _∷_, List·Memᴰ·head, List·Memᴰ·tail, Memᴰ·cast}
 use native.Mathlib.Nat.{add-zero, add-suc, suc-add, suc-inj}
 use native.Mathlib.Omega.{arith}
@@ -16,7 +16,13 @@ use Rattle.fra.specs.Registers.{has}
 use Rattle.fra.specs.Position.{rightPartner, leftPartner, matching}
 use Rattle.fra.specs.Game.{rejoined, remaining, matched}
 use Rattle.fra_laws.proofs.Tests.{and-left, and-right, or-cases, fails-unless}
-use Rattle.fra_laws.proofs.Lists.{any-witness, any-none}
+use Rattle.fra_laws.proofs.Lists.{any-equal, none-equal}
+
+-- registers are numbered from 1
+pub has-positive : (set i : ℕ) → has set i ≡ true → 1 ≤ i
+unfolding has
+has-positive set zero h = absurd (false≢true h)
+has-positive set (suc i) h = omega arith
 
 -- ── Matchings ──
 
@@ -49,7 +55,7 @@ module _ (left right : ℕ) where
       step (inl e) = let z = eqb-true x 0 e in absurd (omega arith)
       step (inr e) =
           let unused = not-true (any (eqb x) xs) (search (and-left, and-right)) in
-          (search (and-left, and-right), search (and-left, and-right), λ k. any-none (eqb x) unused k (eq-eqb x x refl))
+          (search (and-left, and-right), search (and-left, and-right), none-equal x xs unused)
 
   matching-tail : (i x : ℕ) (xs : List ℕ) → matching left right i (x ∷ xs) ≡ true → matching left right (suc i) xs ≡ true
   unfolding matching
@@ -61,10 +67,7 @@ module _ (left right : ℕ) where
   matching-cons i zero xs joined rest = rest
   matching-cons i (suc x) xs joined rest =
       let j = joined (omega arith) in
-      rw (eqb·suc-zero x, j .0, j .1, fails-unless (any (eqb (suc x)) xs) (λ h. j .2 (used h))) rest
-    where
-      used : any (eqb (suc x)) xs ≡ true → suc x ∈ xs
-      used h = let w = any-witness (eqb (suc x)) xs h in Memᴰ·cast (eqb-true (suc x) (w .0) (w .2)) (w .1)
+      rw (eqb·suc-zero x, j .0, j .1, fails-unless (any (eqb (suc x)) xs) (λ h. j .2 (any-equal (suc x) xs h))) rest
 
   -- the facts, for partners from left register i on
   matching-left : (i : ℕ) (l : List ℕ) → matching left right i l ≡ true
@@ -158,23 +161,30 @@ left-exists i {j} p (List·Memᴰ·tail {x = x} {xs = xs} m) = step (eqb x j) re
     step false e rest = rw (e, leftPartner) rest
 
 -- the left partner of j has partner j
+pub left-partner-sound : (partners : List ℕ) (i j : ℕ) → 1 ≤ i → leftPartner 1 partners j ≡ i → rightPartner partners i ≡ j
+unfolding rightPartner
+left-partner-sound partners i j h e =
+    let w = left-found 1 partners j (rw e h) in
+    let f : i ≡ suc (w .0) = omega (arith, w .1) in
+    rw f (w .2)
+
 pub right-of-left : (partners : List ℕ) (j : ℕ) → 1 ≤ leftPartner 1 partners j
     → rightPartner partners (leftPartner 1 partners j) ≡ j
-unfolding rightPartner
-right-of-left partners j h =
-    let w = left-found 1 partners j h in
-    let e : leftPartner 1 partners j ≡ suc (w .0) = omega (arith, w .1) in
-    rw e (w .2)
+right-of-left partners j h = left-partner-sound partners (leftPartner 1 partners j) j h refl
 
--- the partner of i has left partner i
+-- the partner of i has a left partner
+pub left-partner-exists : (partners : List ℕ) (i j : ℕ) → 1 ≤ j → rightPartner partners i ≡ j → 1 ≤ leftPartner 1 partners j
+unfolding rightPartner
+left-partner-exists partners zero j h e = absurd (omega arith)
+left-partner-exists partners (suc k) j h e =
+    left-exists 1 (omega arith) (Memᴰ·cast (sym e) (getD-member partners k (rw e h)))
+
+-- and that is i
 pub left-of-right : {left right : ℕ} {partners : List ℕ} → Matching left right partners → (i : ℕ) → 1 ≤ rightPartner partners i
     → leftPartner 1 partners (rightPartner partners i) ≡ i
-unfolding rightPartner
-left-of-right m zero h = absurd (omega arith)
-left-of-right {partners = partners} m (suc k) h =
-    let found = left-exists 1 (omega arith) (getD-member partners k h) in
-    let e = right-of-left partners (getD partners k 0) found in
-    m .injective (leftPartner 1 partners (getD partners k 0)) (suc k) (rw e h) e
+left-of-right {partners = partners} m i h =
+    let e = right-of-left partners (rightPartner partners i) (left-partner-exists partners i _ h refl) in
+    m .injective (leftPartner 1 partners (rightPartner partners i)) i (rw e h) e
 
 -- ── After a round ──
 
@@ -236,26 +246,51 @@ matched-partner left right a b partners (suc i) h k =
     let e : 1 + i ≡ suc i = omega arith in
     rw e at (matched-at left right a b 1 partners i k)
 
--- where partner y of left register i comes from: a and b were joined, or y is the old partner x and not b
-abbrev From : ℕ → ℕ → ℕ → ℕ → ℕ → Type 0
-From a b i x y = ((i ≡ a) × (y ≡ b)) ⊎ ((x ≡ b → ⊥) × (y ≡ x))
+-- left register i, whose partner was x, has partner j after left register a and right register b got the number: the two
+-- are a and b, or neither is and j is x
+abbrev pub Rejoined : ℕ → ℕ → ℕ → ℕ → ℕ → Type 0
+Rejoined a b i x j = ((i ≡ a) × (j ≡ b)) ⊎ ((i ≡ a → ⊥) × (j ≡ b → ⊥) × (x ≡ j))
 
-rejoined-elim : (a b i x : ℕ) → 1 ≤ rejoined a b i x → From a b i x (rejoined a b i x)
-rejoined-elim a b i x h = step (ℕ-discrete i a) (ℕ-discrete x b)
+rejoined-elim : (a b i x j : ℕ) → 1 ≤ j → rejoined a b i x ≡ j → Rejoined a b i x j
+rejoined-elim a b i x j h q = step (ℕ-discrete i a) (ℕ-discrete x b)
   where
-    step : Dec (i ≡ a) → Dec (x ≡ b) → From a b i x (rejoined a b i x)
-    step (yes d) e = inl (d, rw d (rejoined-written a b x))
-    step (no d) (yes e) = let z : 1 ≤ 0 = rw (e, rejoined-taken a b i d) at h in absurd (omega arith)
-    step (no d) (no e) = inr (e, rejoined-kept a b i x d e)
+    step : Dec (i ≡ a) → Dec (x ≡ b) → Rejoined a b i x j
+    step (yes d) e = inl (d, sym q ∙ rw d (rejoined-written a b x))
+    step (no d) (yes e) = let z : 0 ≡ j = rw (e, rejoined-taken a b i d) at q in absurd (omega arith)
+    step (no d) (no e) = let f = sym (rejoined-kept a b i x d e) ∙ q in inr (d, λ s. e (f ∙ s), f)
+
+rejoined-intro : (a b i x j : ℕ) → Rejoined a b i x j → rejoined a b i x ≡ j
+rejoined-intro a b i x j (inl (d, e)) = rw d (rejoined-written a b x) ∙ sym e
+rejoined-intro a b i x j (inr (d, e, f)) = rejoined-kept a b i x d (λ s. e (sym f ∙ s)) ∙ f
+
+module _ (left right a b : ℕ) (partners : List ℕ) where
+  -- which registers are partners after a round: they are in the to sets, and rejoined
+  pub matched-elim : (i j : ℕ) → 1 ≤ j → rightPartner (matched left right a b 1 partners) i ≡ j
+      → (has left i ≡ true) × (has right j ≡ true) × Rejoined a b i (rightPartner partners i) j
+  matched-elim i j h e =
+      let w = partner-place (matched left right a b 1 partners) i (rw e h) in
+      let q = sym (matched-partner left right a b partners i (w .0) (rw matched-length at (w .1))) ∙ e in
+      let (c, d, f) = remaining-elim left right i (rejoined a b i (rightPartner partners i)) (rw q h) in
+      let s = sym f ∙ q in
+      (c, rw s at d, rejoined-elim a b i (rightPartner partners i) j h s)
+
+  pub matched-intro : (i j : ℕ) → i ≤ length partners → has left i ≡ true → has right j ≡ true
+      → Rejoined a b i (rightPartner partners i) j
+      → rightPartner (matched left right a b 1 partners) i ≡ j
+  matched-intro i j h c d e =
+      let s = rejoined-intro a b i (rightPartner partners i) j e in
+      matched-partner left right a b partners i (has-positive left i c) h
+      ∙ remaining-inside left right i (rejoined a b i (rightPartner partners i)) c (rw s d)
+      ∙ s
 
 -- after a round, partners join registers of the to sets and no right register is used twice
 pub matched-matching : {from-left from-right : ℕ} {partners : List ℕ} → Matching from-left from-right partners
     → (left right a b : ℕ) → Matching left right (matched left right a b 1 partners)
 matched-matching {partners = partners} m left right a b =
     record {
-      left-has = λ i h. at i h .0;
-      right-has = λ i h. at i h .1;
-      injective = λ i j h e. same i j h e (at i h .2) (at j (rw e at h) .2);
+      left-has = λ i h. at i (new i) h refl .0;
+      right-has = λ i h. at i (new i) h refl .1;
+      injective = λ i j h e. same i j (new i) h (at i (new i) h refl .2) (at j (new i) h (sym e) .2);
     }
   where
     old : ℕ → ℕ
@@ -264,15 +299,11 @@ matched-matching {partners = partners} m left right a b =
     new : ℕ → ℕ
     new = rightPartner (matched left right a b 1 partners)
 
-    at : (i : ℕ) → 1 ≤ new i → (has left i ≡ true) × (has right (new i) ≡ true) × From a b i (old i) (new i)
-    at i h =
-        let w = partner-place (matched left right a b 1 partners) i h in
-        let e = matched-partner left right a b partners i (w .0) (rw matched-length at (w .1)) in
-        let r = remaining-elim left right i (rejoined a b i (old i)) (rw e at h) in
-        rw (e, r .2) (r .0, r .1, rejoined-elim a b i (old i) (rw (e, r .2) at h))
+    at : (i j : ℕ) → 1 ≤ j → new i ≡ j → (has left i ≡ true) × (has right j ≡ true) × Rejoined a b i (old i) j
+    at = matched-elim left right a b partners
 
-    same : (i j : ℕ) → 1 ≤ new i → new i ≡ new j → From a b i (old i) (new i) → From a b j (old j) (new j) → i ≡ j
-    same i j h e (inl p) (inl q) = omega arith
-    same i j h e (inl p) (inr q) = absurd (q .0 (omega arith))
-    same i j h e (inr p) (inl q) = absurd (p .0 (omega arith))
-    same i j h e (inr p) (inr q) = m .injective i j (omega arith) (omega arith)
+    same : (i j y : ℕ) → 1 ≤ y → Rejoined a b i (old i) y → Rejoined a b j (old j) y → i ≡ j
+    same i j y h (inl p) (inl q) = p .0 ∙ sym (q .0)
+    same i j y h (inl p) (inr q) = absurd (q .1 (p .1))
+    same i j y h (inr p) (inl q) = absurd (p .1 (q .1))
+    same i j y h (inr p) (inr q) = m .injective i j (rw (p .2) h) (p .2 ∙ sym (q .2))

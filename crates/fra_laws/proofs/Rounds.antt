@@ -2,9 +2,9 @@
 -- exceeds the count of members, and none is skipped from 1 on. For any rules, task and register count. Assumes nothing.
 use Prim.Native.Nat.{ℕ, zero, suc, _+_, _≤_, _<_}
 use mathlib.Core.Path.{_≡_, refl, sym, _∙_, subst, ap}
-use mathlib.Core.Logic.{_⊎_, inl, inr, ⊎-elim, _↔_}
+use mathlib.Core.Logic.{inr, ⊎-elim, _↔_}
 use mathlib.Core.Bool.{Bool, true, false, not}
-use mathlib.Core.List.{List, [], _∷_}
+use mathlib.Core.List.{List}
 use mathlib.Core.Option.{Option, none, some}
 use native.Mathlib.Omega.{arith}
 use native.Mathlib.Decide.{decLe}
@@ -18,7 +18,8 @@ use Rattle.fra.specs.declared.Position.{Position}
 use Rattle.fra.specs.declared.Task.{Task}
 use Rattle.fra.specs.declared.Attack.{Attack}
 use Rattle.fra_laws.proofs.Tests.{not-both, passes-unless}
-use Rattle.fra_laws.proofs.Lists.{keep-passes, keep-fails, keep-intro, keep-elim, least-found, least-none}
+use Rattle.fra_laws.proofs.Lists.{keep-intro, keep-elim, least-found, least-none}
+use Rattle.fra_laws.proofs.Lengths.{keep-shortens}
 use Rattle.fra_laws.proofs.Lost.{Winnable, Answerable, NeverLost, lost-at-once, lost-step, not-lost-step, lost-within-more, not-lost-within-fewer, answered-never-lost}
 
 -- the position is lost within k rounds and not within fewer
@@ -31,23 +32,10 @@ abbrev pub Closed : Rules → Task → List Position → Type 0
 Closed g t l =
     (p : Position) → p ∈ l → (a : Attack) → a ∈ attacks g t p → (k : ℕ) → k ∈ replies t p a → after t p a k ∈ l
 
--- a test keeps fewer elements than there are, or all
-pub keep-shortens : {A : Type 0} (f : A → Bool) (l : List A) → (length (keep f l) < length l) ⊎ (keep f l ≡ l)
-unfolding keep
-keep-shortens f [] = inr refl
-keep-shortens {A} f (x ∷ xs) = step (f x) refl (keep-shortens f xs)
-  where
-    step : (b : Bool) → f x ≡ b → (length (keep f xs) < length xs) ⊎ (keep f xs ≡ xs)
-        → (length (keep f (x ∷ xs)) < suc (length xs)) ⊎ (keep f (x ∷ xs) ≡ x ∷ xs)
-    step true e (inl r) = inl (rw (keep-passes f x xs e) (omega arith))
-    step true e (inr r) = inr (keep-passes f x xs e ∙ ap (λ (l : List A). x ∷ l) r)
-    step false e (inl r) = inl (rw (keep-fails f x xs e) (omega arith))
-    step false e (inr r) = inl (rw (keep-fails f x xs e, r) (omega arith))
-
 module _ (g : Rules) (t : Task) where
   -- ── The rank of any position ──
 
-  rank-least : {p : Position} {j : ℕ} (k : ℕ) → HasRank g t p j → lostWithin g t k p ≡ true → j ≤ k
+  pub rank-least : {p : Position} {j : ℕ} (k : ℕ) → HasRank g t p j → lostWithin g t k p ≡ true → j ≤ k
   rank-least {p} {j} k r h = elim (decLe j k) [ yes d ↦ d | no d ↦ absurd (not-both _ h (r .not-before k (omega arith))) ]
 
   rank-some : (n : ℕ) (p : Position) (k : ℕ) → rank g t n p ≡ some k → HasRank g t p k × (k ≤ n)

@@ -1,7 +1,7 @@
--- Tests that compute: what `&&`, `||` and `not` say of their parts, and a case split on a test. Assumes nothing.
+-- Tests that compute: what `&&` and `||` say of their parts, and a case split on a test. Assumes nothing.
 use mathlib.Core.Path.{_≡_, refl, sym, _∙_}
 use mathlib.Core.Logic.{_⊎_, inl, inr}
-use mathlib.Core.Bool.{Bool, true, false, not, _&&_, _||_, true≢false, false≢true}
+use mathlib.Core.Bool.{Bool, true, false, _&&_, _||_, true≢false, false≢true}
 
 pub and-left : (a b : Bool) → (a && b) ≡ true → a ≡ true
 and-left true b h = refl

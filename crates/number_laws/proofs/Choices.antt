@@ -1,10 +1,10 @@
 -- At a setting that stands over a position, the numbers that a chooser can name and the id cases of the position's attacks
 -- agree: each number that an edge takes stands in an id case of that edge, and each id case has such a number. Assumes
 -- nothing.
-use Prim.Native.Nat.{ℕ, zero, suc, _<_}
+use Prim.Native.Nat.{ℕ, zero, suc, _≤_, _<_}
 use mathlib.Core.Path.{_≡_, refl, sym, _∙_}
 use mathlib.Core.Bool.{Bool, true, false, _&&_, false≢true}
-use mathlib.Core.List.{List, [], _∷_, _++_, map, List·Memᴰ·head, List·Memᴰ·tail, Memᴰ·append-left, Memᴰ·append-right, Memᴰ·map, Memᴰ·cast}
+use mathlib.Core.List.{List, _++_, map, Memᴰ·append-left, Memᴰ·append-right, Memᴰ·map, Memᴰ·cast}
 use native.Mathlib.Omega.{arith}
 use lib.ListN.{length, length-append, length-map}
 use lib.Dec.{eqb}
@@ -14,7 +14,7 @@ use Rattle.fra.specs.Registers.{has}
 use Rattle.fra.specs.Model.{setOf, edgeOf, registerOf}
 use Rattle.fra.specs.Rules.{Rules, other, modelOf}
 use Rattle.fra.specs.Position.{filled, partner}
-use Rattle.fra.specs.Game.{hasCase, cases, attackEdge, attacks}
+use Rattle.fra.specs.Game.{hasCase, attackEdge, attacks}
 use Rattle.fra.specs.Valid.{Valid, RegisterRule}
 use Rattle.fra.specs.declared.EdgeKind.{EdgeKind}
 use Rattle.fra.specs.declared.EdgeKind.the-variants.{Known, LocallyFresh, GloballyFresh}
@@ -26,11 +26,13 @@ use Rattle.fra.specs.declared.Side.the-variants.{Left, Right}
 use Rattle.fra.specs.declared.IdCase.{IdCase}
 use Rattle.fra.specs.declared.IdCase.the-variants.{Held, Private, Seen, New}
 use Rattle.fra_laws.proofs.Tests.{and-left, and-right, and-intro}
-use Rattle.fra_laws.proofs.Lists.{any-witness, any-none, count-intro}
+use Rattle.fra_laws.proofs.Lists.{any-witness, any-none, any-equal, none-equal, count-intro}
+use Rattle.fra_laws.proofs.Lengths.{count-length}
+use Rattle.fra_laws.proofs.Attacks.{Within, AttackAt, attack-at, is-attack}
+use Rattle.fra_laws.proofs.Legal.{valid-side, registers-exist}
 use Rattle.numbers.specs.Numbers.{Setting, readerOf, Takes, Choice}
-use Rattle.number_laws.proofs.Lists.{outside, pigeonhole, member, count-length}
-use Rattle.number_laws.proofs.Moves.{AttackAt, attack-at, is-attack}
-use Rattle.number_laws.proofs.Over.{HoldsAt, Lacks, Over, valid-model, placed, holds-positive, registers-existing, unseen-lacks, partner-holds, not-unpartnered}
+use Rattle.number_laws.proofs.Lists.{outside, pigeonhole}
+use Rattle.number_laws.proofs.Over.{HoldsAt, Lacks, Over, placed, unseen-lacks, partner-holds, not-unpartnered}
 
 -- side σ finds the number n in its register j, in the history and in no register of its own, or nowhere
 abbrev pub Found : Task → Setting → Side → ℕ → IdCase → Type 0
@@ -61,39 +63,35 @@ other-other Right = refl
 
 module _ (r : ℕ) (t : Task) (v : Valid r t) (s : Setting) (p : Position) (o : Over r t s p) where
   -- a register that holds a number is one of the r
+  registers : (σ : Side) (i n : ℕ) → HoldsAt t s σ i n → (1 ≤ i) × (i ≤ r)
+  registers σ i n a =
+      registers-exist (valid-side v σ) (readerOf s σ .state) i (placed t s (o .setting) σ .exists) (a .filled)
+
   register-counted : (σ : Side) (i n : ℕ) → HoldsAt t s σ i n → i ∈ count 1 r
-  register-counted σ i n a =
-      let exists = placed t s (o .setting) σ .exists in
-      let h = registers-existing r (modelOf t σ) (valid-model r t v σ) (readerOf s σ .state) i exists (a .filled) in
-      count-intro 1 r i (holds-positive (modelOf t σ) (readerOf s σ) i n a) (omega arith)
+  register-counted σ i n a = let (b, c) = registers σ i n a in count-intro 1 r i b (omega arith)
 
   -- ── Each number stands in a case ──
 
   -- every number is found somewhere
   find : (σ : Side) (n : ℕ) → (c : IdCase) × Found t s σ n c
-  find σ n = step (member n (s .history)) (any holds? (count 1 r)) refl
+  find σ n = step (any (eqb n) (s .history)) refl (any holds? (count 1 r)) refl
     where
-      filled? : ℕ → Bool
-      filled? = has (setOf (modelOf t σ) (readerOf s σ .state))
-
-      same? : ℕ → Bool
-      same? i = eqb (readerOf s σ .number i) n
-
       holds? : ℕ → Bool
-      holds? i = filled? i && same? i
+      holds? i = has (setOf (modelOf t σ) (readerOf s σ .state)) i && eqb (readerOf s σ .number i) n
 
-      step : Dec (n ∈ s .history) → (b : Bool) → any holds? (count 1 r) ≡ b → (c : IdCase) × Found t s σ n c
-      step (no h) b e = (New, h)
-      step (yes h) true e =
+      step : (b : Bool) → any (eqb n) (s .history) ≡ b → (c : Bool) → any holds? (count 1 r) ≡ c
+          → (c : IdCase) × Found t s σ n c
+      step false h c e = (New, none-equal n (s .history) h)
+      step true h true e =
           let (j, m, both) = any-witness holds? (count 1 r) e in
-          let same = eqb-true (readerOf s σ .number j) n (and-right (filled? j) (same? j) both) in
-          (Private j, record { filled = and-left (filled? j) (same? j) both; holds = same })
-      step (yes h) false e = (Seen, (lacks, h))
+          let same = eqb-true (readerOf s σ .number j) n (search and-right) in
+          (Private j, record { filled = search and-left; holds = same })
+      step true h false e = (Seen, (lacks, any-equal n (s .history) h))
         where
           lacks : Lacks t s σ n
           lacks i a =
               any-none holds? e (register-counted σ i n a)
-              (and-intro (filled? i) (same? i) (a .filled) (eq-eqb (readerOf s σ .number i) n (a .holds)))
+              (and-intro _ _ (a .filled) (eq-eqb (readerOf s σ .number i) n (a .holds)))
 
   -- a register whose number the other side does not hold has no partner
   unpartnered : (σ : Side) (j n : ℕ) → HoldsAt t s (other σ) j n → Lacks t s σ n → partner p (other σ) j ≡ 0
@@ -120,15 +118,12 @@ module _ (r : ℕ) (t : Task) (v : Valid r t) (s : Setting) (p : Position) (o : 
       step New f = (New, (h, f), refl)
   case-of-number σ (GloballyFresh i) n h = (New, (unseen-lacks r t s p o σ n h, h), refl)
 
-  -- and that case can be named
-  case-named : (σ : Side) (i n : ℕ) (c : IdCase) → InCase t s σ i n c → c ∈ cases r
-  unfolding cases
-  case-named σ i n Held a = List·Memᴰ·head refl
-  case-named σ i n (Private j) a =
-      List·Memᴰ·tail (Memᴰ·append-left (Seen ∷ New ∷ []) (Memᴰ·map Private (register-counted (other σ) j n (a .1))))
-  case-named σ i n Seen a = List·Memᴰ·tail (Memᴰ·append-right (map Private (count 1 r)) (List·Memᴰ·head refl))
-  case-named σ i n New a =
-      List·Memᴰ·tail (Memᴰ·append-right (map Private (count 1 r)) (List·Memᴰ·tail (List·Memᴰ·head refl)))
+  -- and the register of that case, if it has one, exists
+  case-within : (σ : Side) (i n : ℕ) (c : IdCase) → InCase t s σ i n c → Within r c
+  case-within σ i n Held a = tt
+  case-within σ i n (Private j) a = registers (other σ) j n (a .1)
+  case-within σ i n Seen a = tt
+  case-within σ i n New a = tt
 
   -- ── Each case has a number ──
 
@@ -157,18 +152,11 @@ module _ (r : ℕ) (t : Task) (v : Valid r t) (s : Setting) (p : Position) (o : 
       → HoldsAt t s (other σ) j (readerOf s (other σ) .number j) × Lacks t s σ (readerOf s (other σ) .number j)
   private-number σ j h = (holds, λ i a. not-unpartnered r t s p o (other σ) j i _ holds (rw (other-other σ) a) free)
     where
-      filled? : Bool
-      filled? = has (filled t p (other σ)) j
-
       free : partner p (other σ) j ≡ 0
-      free = eqb-true (partner p (other σ) j) 0 (and-right filled? (eqb (partner p (other σ) j) 0) h)
+      free = eqb-true (partner p (other σ) j) 0 (search and-right)
 
       holds : HoldsAt t s (other σ) j (readerOf s (other σ) .number j)
-      holds =
-          record {
-            filled = rw (← o .states (other σ)) (and-left filled? (eqb (partner p (other σ) j) 0) h);
-            holds = refl;
-          }
+      holds = record { filled = rw (← o .states (other σ)) (search and-left); holds = refl }
 
   -- an id case of an edge has a number that the edge takes
   number-of-case : (σ : Side) (κ : EdgeKind) (to : ℕ) (c : IdCase)
@@ -202,7 +190,7 @@ module _ (r : ℕ) (t : Task) (v : Valid r t) (s : Setting) (p : Position) (o : 
   -- each choice is an attack, in the case of its number
   pub attack-of-choice : (g : Rules) (c : Choice g t s)
       → (d : IdCase) × Chosen g t s c d × (attackOf g t s c d ∈ attacks g t p)
-  attack-of-choice g c = (w .0, w .1, is-attack g t p (attackOf g t s c (w .0)) conditions named)
+  attack-of-choice g c = (w .0, w .1, is-attack g t p (attackOf g t s c (w .0)) conditions within)
     where
       σ : Side
       σ = c .side
@@ -222,8 +210,8 @@ module _ (r : ℕ) (t : Task) (v : Valid r t) (s : Setting) (p : Position) (o : 
             in-case = w .2;
           }
 
-      named : w .0 ∈ cases (length (p .partners))
-      named = rw (o .size) (case-named σ (registerOf kind) (c .number) (w .0) (w .1))
+      within : Within (length (p .partners)) (w .0)
+      within = rw (o .size) (case-within σ (registerOf kind) (c .number) (w .0) (w .1))
 
   -- each attack is a choice, of a number in its case
   pub choice-of-attack : (g : Rules) (a : Attack) → a ∈ attacks g t p
@@ -253,7 +241,7 @@ module _ (r : ℕ) (t : Task) (v : Valid r t) (s : Setting) (p : Position) (o : 
       to = setOf (modelOf t σ) (attackEdge t a .to)
 
       rule : RegisterRule (setOf (modelOf t σ) (readerOf s σ .state)) to (attackEdge t a .kind)
-      rule = rw (← starts) (valid-model r t v σ .edges (a .edge) (h .exists) .rule)
+      rule = rw (← starts) (valid-side v σ .edges (a .edge) (h .exists) .rule)
 
       w : (n : ℕ)
           × InCase t s σ (registerOf (attackEdge t a .kind)) n (a .case)

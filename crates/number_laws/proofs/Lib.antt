@@ -1,7 +1,4 @@
-pub mod Tests
 pub mod Lists
-pub mod Partners
-pub mod Moves
 pub mod Over
 pub mod Choices
 pub mod Replies

@@ -2,27 +2,21 @@
 use Prim.Native.Nat.{ℕ, zero, suc, _+_, _*_, _≤_, _<_}
 use mathlib.Core.Path.{_≡_, refl, sym, _∙_}
 use mathlib.Core.Logic.{_⊎_, inl, inr, _↔_, Iff·symm, Iff·trans}
-use mathlib.Core.Bool.{true}
 use mathlib.Core.List.{List}
 use native.Mathlib.Omega.{arith}
-use lib.ListN.{length}
-use borrow.Author.Tests.{eqb-true, ltb-true}
 use Rattle.fra.specs.Lists.{_∈_, count}
-use Rattle.fra.specs.Registers.{has}
-use Rattle.fra.specs.Model.{setOf}
 use Rattle.fra.specs.Rules.{modelOf}
-use Rattle.fra.specs.Position.{stateOf, filled, rightPartner, leftPartner, matching, legal}
+use Rattle.fra.specs.Position.{stateOf, rightPartner, leftPartner}
 use Rattle.fra.specs.Valid.{Valid}
-use Rattle.fra.specs.declared.Position.{Position}
 use Rattle.fra.specs.declared.Task.{Task}
 use Rattle.fra.specs.declared.Side.{Side}
 use Rattle.fra.specs.declared.Side.the-variants.{Left, Right}
 use Rattle.fra_laws.proofs.Lists.{count-intro}
+use Rattle.fra_laws.proofs.Lengths.{count-length, count-unique}
+use Rattle.fra_laws.proofs.Registers.{left-partner-sound, left-partner-exists, partner-place}
+use Rattle.fra_laws.proofs.Legal.{registers-exist, Legal, legal-facts, valid-side}
 use Rattle.numbers.specs.Numbers.{Setting, readerOf, Placed, IsPair, Opening}
-use Rattle.number_laws.proofs.Tests.{and-four}
-use Rattle.number_laws.proofs.Lists.{count-length, count-unique}
-use Rattle.number_laws.proofs.Partners.{matching-joins, matching-unique, left-partner-sound, left-partner-exists}
-use Rattle.number_laws.proofs.Over.{HoldsAt, Shared, Over, holds-positive, valid-model, registers-existing}
+use Rattle.number_laws.proofs.Over.{HoldsAt, Shared, Over}
 
 -- the partners of a task's start: its pairs
 abbrev pairs : Task → List ℕ
@@ -33,29 +27,9 @@ unfolding rightPartner
 pair-partner t zero j = (λ h. absurd h, λ e. absurd (omega arith))
 pair-partner t (suc i) j = (λ e. e, λ e. e)
 
--- what a legal position is
-legal-parts : (r : ℕ) (t : Task) (p : Position) → legal r t p ≡ true
-    → (p .left < t .left .«state_count»)
-    × (p .right < t .right .«state_count»)
-    × (length (p .partners) ≡ r)
-    × (matching (filled t p Left) (filled t p Right) 1 (p .partners) ≡ true)
-unfolding legal
-legal-parts r t p h =
-    let q = and-four _ _ _ _ .0 h in (ltb-true _ _ (q .0), ltb-true _ _ (q .1), eqb-true _ _ (q .2), q .3)
-
 module _ (r : ℕ) (t : Task) (v : Valid r t) where
-  start-size : length (pairs t) ≡ r
-  start-size = legal-parts r t (t .start) (v .start-legal) .2
-
-  start-matching : matching (filled t (t .start) Left) (filled t (t .start) Right) 1 (pairs t) ≡ true
-  start-matching = legal-parts r t (t .start) (v .start-legal) .3
-
-  -- a pair joins registers of the two start states' sets
-  pair-filled : (i j : ℕ) → rightPartner (pairs t) i ≡ suc j
-      → (has (setOf (t .left) (t .left .start)) i ≡ true) × (has (setOf (t .right) (t .right .start)) (suc j) ≡ true)
-  pair-filled i j e =
-      rw (v .start-left, v .start-right)
-      at (matching-joins (filled t (t .start) Left) (filled t (t .start) Right) (pairs t) start-matching i j e)
+  start-legal : Legal r t (t .start)
+  start-legal = legal-facts r t (t .start) (v .start-legal)
 
   -- ── An opening stands over the start ──
 
@@ -65,7 +39,7 @@ module _ (r : ℕ) (t : Task) (v : Valid r t) where
         setting = o .setting;
         seen-before = o .seen-before;
         states = states;
-        size = start-size;
+        size = start-legal .long;
         shared = λ i j. (to i j, λ (n, a, b). pair-partner t i j .0 (o .shared i (suc j) n n a b .0 refl));
       }
     where
@@ -76,11 +50,14 @@ module _ (r : ℕ) (t : Task) (v : Valid r t) where
       to : (i j : ℕ) → rightPartner (pairs t) i ≡ suc j → Shared t s i (suc j)
       to i j e = (s .left .number i, a, rw same b)
         where
+          paired : 1 ≤ rightPartner (pairs t) i
+          paired = rw e (omega arith)
+
           a : HoldsAt t s Left i (s .left .number i)
-          a = record { filled = rw (o .start-left) (pair-filled i j e .0); holds = refl }
+          a = record { filled = rw (states Left) at (start-legal .matches .left-has i paired); holds = refl }
 
           b : HoldsAt t s Right (suc j) (s .right .number (suc j))
-          b = record { filled = rw (o .start-right) (pair-filled i j e .1); holds = refl }
+          b = record { filled = rw (states Right, e) at (start-legal .matches .right-has i paired); holds = refl }
 
           same : s .left .number i ≡ s .right .number (suc j)
           same = o .shared i (suc j) (s .left .number i) (s .right .number (suc j)) a b .1 (pair-partner t i j .1 e)
@@ -103,10 +80,7 @@ module _ (r : ℕ) (t : Task) (v : Valid r t) where
 
   registers-start : (σ : Side) (i n : ℕ) → HoldsAt t opening σ i n → (1 ≤ i) × (i ≤ r)
   unfolding opening
-  registers-start σ i n a = (
-    holds-positive (modelOf t σ) (readerOf opening σ) i n a,
-    registers-existing r (modelOf t σ) (valid-model r t v σ) (readerOf opening σ .state) i (exists σ) (a .filled),
-  )
+  registers-start σ i n a = registers-exist (valid-side v σ) (readerOf opening σ .state) i (exists σ) (a .filled)
     where
       exists : (σ : Side) → readerOf opening σ .state < modelOf t σ .«state_count»
       exists Left = v .left .start
@@ -123,12 +97,15 @@ module _ (r : ℕ) (t : Task) (v : Valid r t) where
   numbered (suc j) n a = step (leftPartner 1 (pairs t) (suc j)) refl
     where
       step : (x : ℕ) → leftPartner 1 (pairs t) (suc j) ≡ x → Numbered (suc j) n
-      step zero e = inl (sym (a .holds) ∙ rw e, λ i h. left-partner-exists (pairs t) i j h e)
+      step zero e = inl (
+        sym (a .holds) ∙ rw e,
+        λ i h. let b = left-partner-exists (pairs t) i (suc j) (omega arith) h in omega arith,
+      )
       step (suc k) e =
           let q : suc k ≡ n = rw e at (a .holds) in
-          let h = left-partner-sound (pairs t) (suc j) k e in
-          let f = pair-filled (suc k) j h .0 in
-          rw (← q) (inr (registers-existing r (t .left) (v .left) (t .left .start) (suc k) (v .left .start) f, h))
+          let h = left-partner-sound (pairs t) (suc k) (suc j) (omega arith) e in
+          let f = partner-place (pairs t) (suc k) (rw h (omega arith)) .1 in
+          rw (← q) (inr (rw (start-legal .long) at f, h))
 
   -- left register i and right register j have the same number exactly if they are a pair
   same-number : (i j n : ℕ) → i ≤ r → Numbered (suc j) n → (i ≡ n) ↔ (rightPartner (pairs t) i ≡ suc j)
@@ -136,7 +113,7 @@ module _ (r : ℕ) (t : Task) (v : Valid r t) where
   same-number i j n a (inl (e, alone)) = (λ q. absurd (omega arith), λ h. absurd (alone i h))
   same-number i j n a (inr (b, h)) = (
     λ q. rw q h,
-    λ q. matching-unique (filled t (t .start) Left) (filled t (t .start) Right) (pairs t) start-matching i n j q h,
+    λ q. start-legal .matches .injective i n (rw q (omega arith)) (q ∙ sym h),
   )
 
   -- two right registers have two numbers

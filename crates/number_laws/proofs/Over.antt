@@ -1,24 +1,21 @@
 -- The relation that the proof goes by: a setting with actual numbers stands over a position (it is an abstraction relation).
 -- What it says of each side alone, and of partners seen from either side. Assumes nothing.
-use Prim.Native.Nat.{ℕ, zero, suc, _+_, _*_, _≤_, _<_}
+use Prim.Native.Nat.{ℕ, zero, suc, _+_, _*_, _≤_}
 use mathlib.Core.Path.{_≡_, sym, _∙_}
 use mathlib.Core.Logic.{_↔_}
-use mathlib.Core.Bool.{true}
 use native.Mathlib.Omega.{arith}
 use lib.ListN.{length}
 use Rattle.fra.specs.Lists.{_∈_}
-use Rattle.fra.specs.Registers.{has}
 use Rattle.fra.specs.Model.{setOf}
 use Rattle.fra.specs.Rules.{other, modelOf}
 use Rattle.fra.specs.Position.{stateOf, rightPartner, partner}
-use Rattle.fra.specs.Valid.{Valid, ValidModel}
 use Rattle.fra.specs.declared.Model.{Model}
 use Rattle.fra.specs.declared.Position.{Position}
 use Rattle.fra.specs.declared.Task.{Task}
 use Rattle.fra.specs.declared.Side.{Side}
 use Rattle.fra.specs.declared.Side.the-variants.{Left, Right}
+use Rattle.fra_laws.proofs.Registers.{has-positive, left-partner-sound, left-partner-exists}
 use Rattle.numbers.specs.Numbers.{Reader, Holds, Setting, readerOf, Placed, IsSetting}
-use Rattle.number_laws.proofs.Partners.{register-positive, left-partner-sound, left-partner-exists}
 
 -- register i of side σ holds the number n
 abbrev pub HoldsAt : Task → Setting → Side → ℕ → ℕ → Type 0
@@ -43,18 +40,6 @@ pub record Over (r : ℕ) (t : Task) (s : Setting) (p : Position) : Type 0 where
 
 -- ── One side ──
 
-pub valid-model : (r : ℕ) (t : Task) → Valid r t → (σ : Side) → ValidModel r (modelOf t σ)
-valid-model r t v Left = v .left
-valid-model r t v Right = v .right
-
--- the registers of a state's set exist
-pub registers-existing : (r : ℕ) (m : Model) → ValidModel r m → (q i : ℕ) → q < m .«state_count»
-    → has (setOf m q) i ≡ true → i ≤ r
-registers-existing r m v q i h e =
-    let a = v .states q h .existing i e in
-    let b = v .registers in
-    omega arith
-
 pub placed : (t : Task) (s : Setting) → IsSetting t s → (σ : Side) → Placed (modelOf t σ) (readerOf s σ) (s .history)
 placed t s h Left = h .left
 placed t s h Right = h .right
@@ -64,8 +49,8 @@ module _ (m : Model) (x : Reader) where
   holds-one : (i n k : ℕ) → Holds m x i n → Holds m x i k → n ≡ k
   holds-one i n k a b = sym (a .holds) ∙ b .holds
 
-  pub holds-positive : (i n : ℕ) → Holds m x i n → 1 ≤ i
-  holds-positive i n a = register-positive (setOf m (x .state)) i (a .filled)
+  holds-positive : (i n : ℕ) → Holds m x i n → 1 ≤ i
+  holds-positive i n a = has-positive (setOf m (x .state)) i (a .filled)
 
 -- ── Both sides ──
 
@@ -81,7 +66,7 @@ module _ (r : ℕ) (t : Task) (s : Setting) (p : Position) (o : Over r t s p) wh
       let (k, b, c) = o .shared i j .0 e in rw (holds-one (t .left) (s .left) i n k a b) c
   partner-holds Right zero n j a e = let z = holds-positive (t .right) (s .right) 0 n a in absurd (omega arith)
   partner-holds Right (suc i) n j a e =
-      let (k, b, c) = o .shared (suc j) i .0 (left-partner-sound (p .partners) (suc i) j e) in
+      let (k, b, c) = o .shared (suc j) i .0 (left-partner-sound (p .partners) (suc j) (suc i) (omega arith) e) in
       rw (holds-one (t .right) (s .right) (suc i) n k a c) b
 
   -- registers with the same number have partners
@@ -90,4 +75,6 @@ module _ (r : ℕ) (t : Task) (s : Setting) (p : Position) (o : Over r t s p) wh
   not-unpartnered Left i zero n a b z = let h = holds-positive (t .right) (s .right) 0 n b in absurd (omega arith)
   not-unpartnered Left i (suc j) n a b z = let e = o .shared i j .1 (n, a, b) in omega arith
   not-unpartnered Right zero j n a b z = let h = holds-positive (t .right) (s .right) 0 n a in absurd (omega arith)
-  not-unpartnered Right (suc i) j n a b z = left-partner-exists (p .partners) j i (o .shared j i .1 (n, b, a)) z
+  not-unpartnered Right (suc i) j n a b z =
+      let h = left-partner-exists (p .partners) j (suc i) (omega arith) (o .shared j i .1 (n, b, a)) in
+      omega arith

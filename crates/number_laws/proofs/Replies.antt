@@ -18,8 +18,8 @@ use Rattle.fra.specs.declared.Attack.{Attack}
 use Rattle.fra.specs.declared.Side.{Side}
 use Rattle.fra.specs.declared.IdCase.{IdCase}
 use Rattle.fra.specs.declared.IdCase.the-variants.{Held, Private, Seen, New}
+use Rattle.fra_laws.proofs.Attacks.{ReplyAt, reply-at, is-reply}
 use Rattle.numbers.specs.Numbers.{Setting, readerOf, Takes, Choice, Reply}
-use Rattle.number_laws.proofs.Moves.{ReplyAt, reply-at, is-reply}
 use Rattle.number_laws.proofs.Over.{Over, placed, partner-holds, not-unpartnered, unseen-lacks}
 use Rattle.number_laws.proofs.Choices.{Found, InCase, attackOf, Chosen}
 

@@ -26,10 +26,11 @@ use Rattle.fra.specs.declared.Side.{Side}
 use Rattle.fra.specs.declared.Side.the-variants.{Left, Right}
 use Rattle.fra.specs.declared.IdCase.{IdCase}
 use Rattle.fra_laws.proofs.Tests.{or-cases}
+use Rattle.fra_laws.proofs.Registers.{matched-length, Rejoined, matched-elim, matched-intro}
+use Rattle.fra_laws.proofs.Legal.{registers-exist, valid-side}
 use Rattle.numbers.specs.Numbers.{Reader, Holds, Setting, readerOf, Placed, Takes, Open, stored, taken, joined, played, Choice, Reply, afterReply}
 use Rattle.number_laws.proofs.Lists.{Joined, joined-set}
-use Rattle.number_laws.proofs.Partners.{matched-length, Rejoined, matched-joins}
-use Rattle.number_laws.proofs.Over.{HoldsAt, Shared, Over, placed, valid-model, registers-existing}
+use Rattle.number_laws.proofs.Over.{HoldsAt, Shared, Over, placed}
 use Rattle.number_laws.proofs.Choices.{attackOf}
 
 -- ── One reader ──
@@ -179,9 +180,13 @@ module _ (r : ℕ) (t : Task) (v : Valid r t) (s : Setting) (p : Position) (o : 
       joins : (i j : ℕ)
           → (rightPartner (moved t p l e .partners) i ≡ suc j)
           ↔ ((has left i ≡ true) × (has right (suc j) ≡ true) × Joins i (suc j))
-      joins =
-          matched-joins left right (registerOf (l .kind)) (registerOf (e .kind)) (p .partners)
-          (λ i h. rw (o .size) (registers-existing r (t .left) (v .left) (l .to) i (a .valid .to) h))
+      joins i j = (
+        matched-elim left right (registerOf (l .kind)) (registerOf (e .kind)) (p .partners) i (suc j) (omega arith),
+        λ (f, g, h).
+            let within = registers-exist (v .left) (l .to) i (a .valid .to) f .1 in
+            matched-intro left right (registerOf (l .kind)) (registerOf (e .kind)) (p .partners) i (suc j) (rw (o .size) within)
+            f g h,
+      )
 
       to : (i j : ℕ) → (has left i ≡ true) × (has right (suc j) ≡ true) × Joins i (suc j)
           → Shared t (played s l e n) i (suc j)
@@ -213,7 +218,7 @@ module _ (r : ℕ) (t : Task) (v : Valid r t) (s : Setting) (p : Position) (o : 
   able σ k n a =
       record {
         placed = placed t s (o .setting) σ;
-        valid = valid-model r t v σ .edges k (a .exists);
+        valid = valid-side v σ .edges k (a .exists);
         starts = a .starts;
         takes = a .takes;
       }

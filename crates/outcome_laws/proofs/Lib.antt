@@ -1,4 +1,3 @@
-pub mod Attacks
 pub mod Bodies
 pub mod Conditions
 pub mod Written

@@ -2,18 +2,17 @@
 -- with the start, and the positions that the chosen attacks lead to show that the start is lost. Assumes nothing.
 use Prim.Native.Nat.{ℕ, zero, suc, _≤_, _<_}
 use mathlib.Core.Path.{_≡_, refl, sym, _∙_, ap, subst}
-use mathlib.Core.Logic.{_⊎_, inl, inr, ⊎-elim, _↔_}
-use mathlib.Core.Bool.{Bool, true, false, false≢true}
-use mathlib.Core.List.{List, [], _∷_, map, List·Memᴰ·not-nil, Memᴰ·cast, Memᴰ·map, Memᴰ·of-map}
+use mathlib.Core.Logic.{_⊎_, inl, inr, _↔_}
+use mathlib.Core.Bool.{true, false≢true}
+use mathlib.Core.List.{List, [], _∷_, List·Memᴰ·not-nil, Memᴰ·map, Memᴰ·of-map}
 use mathlib.Core.Option.{Option, none, some}
 use native.Mathlib.Omega.{arith}
-use native.Mathlib.Decide.{decLe}
 use lib.ListN.{length}
-use Rattle.fra.specs.Lists.{_∈_, any, all, keep, first}
+use Rattle.fra.specs.Lists.{_∈_}
 use Rattle.fra.specs.Rules.{Rules}
 use Rattle.fra.specs.Position.{legal}
-use Rattle.fra.specs.Game.{attacks, replies, after, lostAtOnce, lostWithin, Bisimulation}
-use Rattle.fra.specs.Reach.{Closure, begin, closed, enough, reached, rank, rounds}
+use Rattle.fra.specs.Game.{attacks, replies, after, lostWithin, Bisimulation}
+use Rattle.fra.specs.Reach.{begin, closed, enough, reached, rank, rounds}
 use Rattle.fra.specs.Valid.{Valid}
 use Rattle.fra.specs.declared.Position.{Position}
 use Rattle.fra.specs.declared.Task.{Task}
@@ -23,8 +22,8 @@ use Rattle.fra_laws.proofs.Lists.{any-intro, all-at, all-intro, keep-intro, kee
 use Rattle.fra_laws.proofs.Closure.{Computes, closure-keeps}
 use Rattle.fra_laws.proofs.Legal.{after-legal}
 use Rattle.fra_laws.proofs.Reached.{enough-computes, reached-start, reached-after, reached-legal}
-use Rattle.fra_laws.proofs.Lost.{Winnable, NeverLost, lost-at-once}
-use Rattle.fra_laws.proofs.Rounds.{HasRank, Closed, rank-exactly, rank-rounds, rank-never, lost-within-length}
+use Rattle.fra_laws.proofs.Lost.{NeverLost, lost-at-once}
+use Rattle.fra_laws.proofs.Rounds.{Closed, rank-least, rank-exactly, rank-rounds, rank-never}
 use Rattle.fra_laws.proofs.Bisimulation.{keptMembers, kept-never-lost, kept-bisimulation}
 use Rattle.outcome.specs.Certificate.{Loss, isNever, roundsOrNever, keptPositions, wins, chosen, attackOf, attackLeads, lossStep, lossWith, lossOf, losses}
 use Rattle.outcome.specs.Conditions.{KeptCondition, LostAlready, LostByAttack, LostCondition}
@@ -95,11 +94,7 @@ module _ {r : ℕ} {t : Task} (valid : Valid r t) (g : Rules) where
     where
       found : (o : Option ℕ) → rank g t N p ≡ o → (k : ℕ) × LostIn p k × (k ≤ n)
       found none e = absurd (not-both _ h (rank-never g t (reached g t) reached-closed p m .0 e n))
-      found (some k) e = (k, (m, e), least (decLe k n))
-        where
-          least : Dec (k ≤ n) → k ≤ n
-          least (yes d) = d
-          least (no d) = absurd (not-both _ h (rank-exactly g t N p k .0 e .0 .not-before n (omega arith)))
+      found (some k) e = (k, (m, e), rank-least g t n (rank-exactly g t N p k .0 e .0) h)
 
   -- a position of rank k + 1 has a chosen attack, which exists and all of whose replies are lost within k rounds
   chosen-wins : (p : Position) (k : ℕ) → LostIn p (suc k)

@@ -150,11 +150,7 @@ module _ (file table buffer : List ℕ) (v : Verdict) (positions n size : ℕ)
     differ-exactly m = by (verdict-start (read-valid file read) equality says)
       where
         least : LeastEnough bisimulation (taskOf file) m s ↔ HasRank bisimulation (taskOf file) (taskOf file .start) m
-        least =
-            let e = least-enough-iff-first-lost maxRegisters (taskOf file) (read-valid file read) bisimulation s opening m in (
-              λ h. let w = e .0 h in record { lost = w .0; not-before = w .1 },
-              λ h. e .1 (h .lost, h .not-before),
-            )
+        least = least-enough-iff-first-lost maxRegisters (taskOf file) (read-valid file read) bisimulation s opening m
 
         by : ((v ≡ Equal) × NeverLost bisimulation (taskOf file) (taskOf file .start))
             ⊎ (v ≡ Differ) × HasRank bisimulation (taskOf file) (taskOf file .start) n × (n ≤ positions)

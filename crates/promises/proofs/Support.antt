@@ -5,15 +5,12 @@ use mathlib.Core.Logic.{_⊎_, inl, inr, ⊎-elim, _↔_}
 use mathlib.Core.List.{List}
 use mathlib.Core.Option.{Option, none, some}
 use native.Mathlib.Omega.{arith}
-use native.Mathlib.Decide.{decLt}
 use lib.ListN.{length}
 use Rattle.fra.specs.Rules.{Rules}
-use Rattle.fra.specs.Game.{lostWithin}
 use Rattle.fra.specs.Reach.{reached, rounds}
 use Rattle.fra.specs.Valid.{Valid}
 use Rattle.fra.specs.declared.Position.{Position}
 use Rattle.fra.specs.declared.Task.{Task}
-use Rattle.fra_laws.proofs.Tests.{not-both}
 use Rattle.task.specs.TaskFile.{readTask, maxRegisters}
 use Rattle.task.specs.declared.Answer.{Answer}
 use Rattle.task.specs.declared.Answer.the-variants.{Read, Refused as Unread}
@@ -23,7 +20,7 @@ use Rattle.outcome.specs.declared.Verdict.{Verdict}
 use Rattle.outcome.specs.declared.Comparison.{Comparison}
 use Rattle.outcome.specs.declared.Comparison.the-variants.{Decided, Refused}
 use Rattle.fra_laws.proofs.Lost.{NeverLost}
-use Rattle.fra_laws.proofs.Rounds.{HasRank, rank-exactly, rank-never}
+use Rattle.fra_laws.proofs.Rounds.{HasRank, rank-least, rank-exactly, rank-never}
 use Rattle.fra_laws.proofs.Reached.{reached-start}
 use Rattle.outcome_laws.proofs.Written.{reached-closed}
 use Rattle.outcome_laws.proofs.Compare.{Says, verdict-says}
@@ -89,9 +86,7 @@ verdict-start valid c says =
 
 -- two counts of which each is the least within which a position is lost are one
 pub same-rank : {g : Rules} {t : Task} {p : Position} {n m : ℕ} → HasRank g t p n → HasRank g t p m → n ≡ m
-same-rank {g} {t} {p} {n} {m} a b = step (decLt n m) (decLt m n)
-  where
-    step : Dec (n < m) → Dec (m < n) → n ≡ m
-    step (yes h) d = absurd (not-both (lostWithin g t n p) (a .lost) (b .not-before n h))
-    step (no h) (yes d) = absurd (not-both (lostWithin g t m p) (b .lost) (a .not-before m d))
-    step (no h) (no d) = omega arith
+same-rank {g} {t} {n = n} {m = m} a b =
+    let x = rank-least g t m a (b .lost) in
+    let y = rank-least g t n b (a .lost) in
+    omega arith

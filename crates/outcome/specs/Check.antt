@@ -2,7 +2,7 @@
 -- certificate.
 use Prim.Native.Nat.{ℕ, zero, suc, _+_, _-_}
 use mathlib.Core.Bool.{Bool, true, false, not, cond, _&&_, _||_}
-use mathlib.Core.List.{List, [], _∷_}
+use mathlib.Core.List.{List, [], _∷_, map}
 use mathlib.Core.Option.{Option, none, some}
 use lib.ListN.{length, getD, take, drop}
 use lib.Dec.{ltb, leb, eqb}
@@ -137,25 +137,15 @@ judgeList formed accepted check = cond formed (cond accepted check (Refused 14))
 unfoldable pub checkKept : ℕ → Contest → Task → Option (List (List ℕ)) → Check
 checkKept r c t none = Refused 13
 checkKept r c t (some l) =
-    let ps = positions l in judgeList (orderly r t ps) (keptAccepted (c .rules) t ps) (Accepted (c .kept) 0)
-  where
-    positions : List (List ℕ) → List Position
-    positions [] = []
-    positions (b ∷ bs) = positionOf r b ∷ positions bs
+    let ps = map (positionOf r) l in
+    judgeList (orderly r t ps) (keptAccepted (c .rules) t ps) (Accepted (c .kept) 0)
 
 unfoldable pub checkLosses : ℕ → Contest → Task → Option (List (List ℕ)) → Check
 checkLosses r c t none = Refused 13
 checkLosses r c t (some l) =
-    let xs = losses l in
-    judgeList (orderly r t (places xs)) (lossesAccepted (c .rules) t xs) (Accepted (c .lost) (startRounds t xs))
-  where
-    losses : List (List ℕ) → List Loss
-    losses [] = []
-    losses (b ∷ bs) = lossFrom r b ∷ losses bs
-
-    places : List Loss → List Position
-    places [] = []
-    places (x ∷ xs) = x .position ∷ places xs
+    let xs = map (lossFrom r) l in
+    judgeList (orderly r t (map (λ x. x .position) xs)) (lossesAccepted (c .rules) t xs)
+    (Accepted (c .lost) (startRounds t xs))
 
 -- by the kind of the first record; a certificate of no record is well formed and not accepted
 unfoldable pub checkTask : ℕ → Contest → Task → List ℕ → Check

@@ -3,7 +3,7 @@
 use Prim.Native.Nat.{ℕ, _<_, _^_}
 use mathlib.Core.Path.{_≡_}
 use mathlib.Core.Logic.{_⊎_, _≢_}
-use mathlib.Core.Bool.{Bool, false}
+use mathlib.Core.Bool.{true, false}
 use mathlib.Core.List.{List, [], _∷_, _++_, flatMap}
 use lib.ListN.{length}
 use Rattle.fra.specs.Lists.{_∈_, Unique}
@@ -73,6 +73,7 @@ pub data Acceptable (r : ℕ) (c : Contest) (t : Task) (certificate : List ℕ) 
       → KeptCondition (c .rules) r t l
       → Acceptable r c t certificate
   as-lost : (l : List Loss) → certificate ≡ flatMap (lossRecord (kindOf (c .lost))) l
+      → ((x : Loss) → x ∈ l → legal r t (x .position) ≡ true)
       → ((x : Loss) → x ∈ l → x .rounds < 2 ^ 32)
       → LostCondition (c .rules) t l
       → Acceptable r c t certificate

@@ -1,4 +1,10 @@
+pub mod Tests
 pub mod Bodies
+pub mod Orderly
+pub mod Accepted
+pub mod Encoding
+pub mod Malformed
+pub mod Check
 pub mod Conditions
 pub mod Written
 pub mod Compare

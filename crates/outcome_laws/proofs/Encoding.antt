@@ -1,0 +1,143 @@
+-- A position and a loss are what is decoded from their bytes, and bytes are those of what is decoded from them.
+-- Assumes nothing.
+use Prim.Native.Nat.{ℕ, zero, suc, _+_, _*_, _/_, _%_, _^_, _≤_, _<_}
+use mathlib.Core.Path.{_≡_, refl, sym, _∙_}
+use mathlib.Core.List.{List, [], _∷_, _++_, append-nil, List·Memᴰ·head, List·Memᴰ·tail}
+use native.Mathlib.Nat.{div-add-mod', div-div-eq-div-mul}
+use native.Mathlib.Omega.{arith}
+use lib.ListN.{length, getD, take, drop, length-append, take-append-drop, drop-of-length-le}
+use lib.Seq.{take-at, take-all, drop-cons, getD-append-add}
+use Rattle.fra.specs.Lists.{_∈_}
+use Rattle.fra.specs.Position.{bytes}
+use Rattle.fra.specs.declared.Position.{Position}
+use Rattle.outcome.specs.Bytes.{word, wordAt}
+use Rattle.outcome.specs.Certificate.{Loss}
+use Rattle.outcome.specs.Check.{positionOf, lossFrom, keptLength, lossLength}
+
+-- numbers that are bytes
+abbrev pub Bytes : List ℕ → Type 0
+Bytes l = (b : ℕ) → b ∈ l → b < 256
+
+byte-at : (l : List ℕ) → Bytes l → (i : ℕ) → getD l i 0 < 256
+byte-at [] h i = omega arith
+byte-at (b ∷ l) h zero = h b (List·Memᴰ·head refl)
+byte-at (b ∷ l) h (suc i) = byte-at l (λ c m. h c (List·Memᴰ·tail m)) i
+
+-- ── Words of four bytes ──
+
+-- what a number has above one digit is what it has above the next, and that digit
+digit : (n m : ℕ) → n / m ≡ n / (m * 256) * 256 + n / m % 256
+digit n m = rw (← div-div-eq-div-mul n m 256) (sym (div-add-mod' (n / m) 256))
+
+word-decoded : (n : ℕ) → n < 2 ^ 32 → wordAt (word n) 0 ≡ n
+unfolding word wordAt
+word-decoded n h = omega (arith, digit n 1, digit n 256, digit n 65536)
+
+module _ (l : List ℕ) (h : Bytes l) (i : ℕ) where
+  word-encoded : word (wordAt l i) ≡ getD l i 0 ∷ getD l (i + 1) 0 ∷ getD l (i + 2) 0 ∷ getD l (i + 3) 0 ∷ []
+  unfolding word wordAt
+  word-encoded =
+      let p = byte-at l h (i + 1) in
+      let q = byte-at l h (i + 2) in
+      let r = byte-at l h (i + 3) in
+      let s = byte-at l h i in
+      let w : wordAt l i / 2 ^ 24 % 256 ≡ getD l i 0 = omega arith in
+      let x : wordAt l i / 2 ^ 16 % 256 ≡ getD l (i + 1) 0 = omega arith in
+      let y : wordAt l i / 2 ^ 8 % 256 ≡ getD l (i + 2) 0 = omega arith in
+      let z : wordAt l i % 256 ≡ getD l (i + 3) 0 = omega arith in
+      cc
+
+  word-bound : wordAt l i < 2 ^ 32
+  unfolding wordAt
+  word-bound = omega (arith, byte-at l h i, byte-at l h (i + 1), byte-at l h (i + 2), byte-at l h (i + 3))
+
+-- ── Bodies ──
+
+-- the body of a loss
+abbrev pub lossBody : Loss → List ℕ
+lossBody x = bytes (x .position) ++ (x .side ∷ x .edge ∷ x .case ∷ word (x .rounds))
+
+module _ (r : ℕ) where
+  position-front : (p : Position) (rest : List ℕ) → length (p .partners) ≡ r → positionOf r (bytes p ++ rest) ≡ p
+  unfolding positionOf bytes
+  position-front p rest e =
+      let f : take r (p .partners ++ rest) ≡ p .partners = take-at (p .partners) rest r e in
+      λ i. record { left = p .left; right = p .right; partners = f i }
+
+  loss-fields : (p : Position) (s e c : ℕ) (w : List ℕ) → length (p .partners) ≡ r
+      → lossFrom r (bytes p ++ s ∷ e ∷ c ∷ w)
+      ≡ record { position = p; side = s; edge = e; case = c; rounds = wordAt w 0 }
+  unfolding lossFrom wordAt bytes
+  loss-fields p s e c w h =
+      let rounds : wordAt (bytes p ++ s ∷ e ∷ c ∷ w) (r + 5) ≡ wordAt w 0 =
+      cc (
+        at 3 (r + 5) (omega arith),
+        at 4 (r + 5 + 1) (omega arith),
+        at 5 (r + 5 + 2) (omega arith),
+        at 6 (r + 5 + 3) (omega arith),
+      ) in
+      λ i. record {
+        position = position-front p (s ∷ e ∷ c ∷ w) h i;
+        side = at 0 (r + 2) (omega arith) i;
+        edge = at 1 (r + 3) (omega arith) i;
+        case = at 2 (r + 4) (omega arith) i;
+        rounds = rounds i;
+      }
+    where
+      at : (n k : ℕ) → k ≡ r + 2 + n → getD (bytes p ++ s ∷ e ∷ c ∷ w) k 0 ≡ getD (s ∷ e ∷ c ∷ w) n 0
+      at n k i = let j : k ≡ length (bytes p) + n = omega arith in rw j (getD-append-add (bytes p) (s ∷ e ∷ c ∷ w) n 0)
+
+  position-bytes : (body : List ℕ) → 2 ≤ length body → bytes (positionOf r body) ≡ take (r + 2) body
+  unfolding positionOf bytes
+  position-bytes [] h = absurd (omega arith)
+  position-bytes (a ∷ []) h = absurd (omega arith)
+  position-bytes (a ∷ b ∷ l) h = let e : r + 2 ≡ suc (suc r) = omega arith in rw e
+
+  -- ── Lengths ──
+
+  pub position-length : (p : Position) → length (p .partners) ≡ r → length (bytes p) ≡ keptLength r
+  unfolding bytes
+  position-length p e = omega arith
+
+  pub loss-length : (x : Loss) → length (x .position .partners) ≡ r → length (lossBody x) ≡ lossLength r
+  unfolding bytes word
+  loss-length x e = simp length-append (omega arith)
+
+  -- ── Decoding undoes encoding ──
+
+  pub position-decoded : (p : Position) → length (p .partners) ≡ r → positionOf r (bytes p) ≡ p
+  position-decoded p e = rw append-nil at (position-front p [] e)
+
+  pub loss-decoded : (x : Loss) → length (x .position .partners) ≡ r → x .rounds < 2 ^ 32 → lossFrom r (lossBody x) ≡ x
+  loss-decoded x e h =
+      rw (word-decoded (x .rounds) h) at (loss-fields (x .position) (x .side) (x .edge) (x .case) (word (x .rounds)) e)
+
+  -- ── Encoding undoes decoding ──
+
+  pub position-encoded : (body : List ℕ) → length body ≡ keptLength r → bytes (positionOf r body) ≡ body
+  position-encoded body e = position-bytes body (omega arith) ∙ take-all (r + 2) body (omega arith)
+
+  module _ (body : List ℕ) (e : length body ≡ lossLength r) (h : Bytes body) where
+    pub loss-encoded : lossBody (lossFrom r body) ≡ body
+    unfolding lossFrom wordAt
+    loss-encoded =
+        cc (
+          position-bytes body (omega arith),
+          take-append-drop (r + 2) body,
+          next (r + 2) (r + 3) (omega arith) (omega arith),
+          next (r + 3) (r + 4) (omega arith) (omega arith),
+          next (r + 4) (r + 5) (omega arith) (omega arith),
+          word-encoded body h (r + 5),
+          next (r + 5) (r + 5 + 1) (omega arith) (omega arith),
+          next (r + 5 + 1) (r + 5 + 2) (omega arith) (omega arith),
+          next (r + 5 + 2) (r + 5 + 3) (omega arith) (omega arith),
+          next (r + 5 + 3) (r + 9) (omega arith) (omega arith),
+          drop-of-length-le body {i = r + 9} (omega arith),
+        )
+      where
+        next : (k m : ℕ) → m ≡ suc k → k < length body → drop k body ≡ getD body k 0 ∷ drop m body
+        next k m i b = rw i (drop-cons body k 0 b)
+
+    pub decoded-rounds : lossFrom r body .rounds < 2 ^ 32
+    unfolding lossFrom wordAt
+    decoded-rounds = word-bound body h (r + 5)

@@ -26,7 +26,7 @@ use Rattle.outcome_laws.proofs.Bodies.{Whole}
 use Rattle.outcome_laws.proofs.Orderly.{orderly-passes}
 use Rattle.outcome_laws.proofs.Accepted.{same-passes, kept-accepted, losses-accepted}
 use Rattle.outcome_laws.proofs.Encoding.{Bytes, lossBody, position-length, loss-length, position-decoded, position-encoded, loss-decoded, loss-encoded, decoded-rounds}
-use Rattle.outcome.specs.Refusals.{Acceptable, as-kept, as-lost, NotAccepted}
+use Rattle.outcome.specs.Refusals.{Malformed, Acceptable, as-kept, as-lost, NotAccepted}
 use Rattle.outcome_laws.proofs.Malformed.{accepts, verdict, rounds, judged, check-whole, Answer, malformed, rejected, accepted, answer, check-refused-13}
 
 -- the position of a loss
@@ -256,3 +256,21 @@ module _ (r : ℕ) (c : Contest) (t : Task) (differ : kindOf (c .kept) ≢ kindO
       of (malformed m e) = inl e
       of (rejected b a e) = inr (inl e)
       of (accepted b a e) = inr (inr (verdict r c t (b .known), rounds r c t (b .known) (b .bodies), e))
+
+  -- each refusal in its case, and no other number
+  pub check-refused : (l : List ℕ) → Bytes l → (n : ℕ)
+      → (checkTask r c t l ≡ Refused n) ↔ (((n ≡ 13) × Malformed r c t l) ⊎ (n ≡ 14) × NotAccepted r c t l)
+  check-refused l h n = (to (check-answers l), from)
+    where
+      to : (checkTask r c t l ≡ Refused 13)
+          ⊎ (checkTask r c t l ≡ Refused 14)
+          ⊎ (v : Verdict) × (m : ℕ) × (checkTask r c t l ≡ Accepted v m)
+          → checkTask r c t l ≡ Refused n
+          → ((n ≡ 13) × Malformed r c t l) ⊎ (n ≡ 14) × NotAccepted r c t l
+      to (inl a) e = let d : n ≡ 13 = cc in inl (d, check-refused-13 r c t differ l .0 a)
+      to (inr (inl a)) e = let d : n ≡ 14 = cc in inr (d, check-refused-14 l h .0 a)
+      to (inr (inr (v, m, a))) e = let z : _≡_ {A = ℕ} 0 1 = cc in absurd (omega arith)
+
+      from : ((n ≡ 13) × Malformed r c t l) ⊎ (n ≡ 14) × NotAccepted r c t l → checkTask r c t l ≡ Refused n
+      from (inl (d, m)) = rw d (check-refused-13 r c t differ l .1 m)
+      from (inr (d, m)) = rw d (check-refused-14 l h .1 m)

@@ -8,3 +8,4 @@ pub mod Check
 pub mod Conditions
 pub mod Written
 pub mod Compare
+pub mod Own

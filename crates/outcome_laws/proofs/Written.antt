@@ -23,7 +23,7 @@ use Rattle.fra_laws.proofs.Closure.{Computes, closure-keeps}
 use Rattle.fra_laws.proofs.Legal.{after-legal}
 use Rattle.fra_laws.proofs.Reached.{enough-computes, reached-start, reached-after, reached-legal}
 use Rattle.fra_laws.proofs.Lost.{NeverLost, lost-at-once}
-use Rattle.fra_laws.proofs.Rounds.{Closed, rank-least, rank-exactly, rank-rounds, rank-never}
+use Rattle.fra_laws.proofs.Rounds.{HasRank, Closed, rank-least, rank-exactly, rank-rounds, rank-never}
 use Rattle.fra_laws.proofs.Bisimulation.{keptMembers, kept-never-lost, kept-bisimulation}
 use Rattle.outcome.specs.Certificate.{Loss, isNever, roundsOrNever, keptPositions, wins, chosen, attackOf, attackLeads, lossStep, lossWith, lossOf, losses}
 use Rattle.outcome.specs.Conditions.{KeptCondition, LostAlready, LostByAttack, LostCondition}
@@ -33,22 +33,31 @@ never-none none h = refl
 never-none (some n) h = absurd (false≢true h)
 
 -- what a record says of its position and rounds, whatever attack it names
-loss-position : (p : Position) (n : Option ℕ) (o : Option Attack) → lossWith p n o .position ≡ p
+pub loss-position : (p : Position) (n : Option ℕ) (o : Option Attack) → lossWith p n o .position ≡ p
 unfolding lossWith
 loss-position p n none = refl
 loss-position p n (some a) = refl
 
-loss-rounds : (p : Position) (n : Option ℕ) (o : Option Attack) → lossWith p n o .rounds ≡ roundsOrNever n
+pub loss-rounds : (p : Position) (n : Option ℕ) (o : Option Attack) → lossWith p n o .rounds ≡ roundsOrNever n
 unfolding lossWith
 loss-rounds p n none = refl
 loss-rounds p n (some a) = refl
 
 module _ {r : ℕ} {t : Task} (valid : Valid r t) (g : Rules) where
-  abbrev N : ℕ
+  abbrev pub N : ℕ
   N = length (reached g t)
 
   pub reached-closed : Closed g t (reached g t)
   reached-closed p m a n k o = reached-after valid g p a k m n o
+
+  -- the start's rounds: none exactly if it is never lost, and else its rank, at most the count of positions reached
+  pub rounds-never : (rounds g t (t .start) ≡ none) ↔ NeverLost g t (t .start)
+  unfolding rounds
+  rounds-never = rank-never g t (reached g t) reached-closed (t .start) (reached-start valid g)
+
+  pub rounds-least : (n : ℕ) → rounds g t (t .start) ≡ some n → HasRank g t (t .start) n × (n ≤ length (reached g t))
+  unfolding rounds
+  rounds-least n e = rank-exactly g t (length (reached g t)) (t .start) n .0 e
 
   -- ── The positions kept ──
 
@@ -85,7 +94,7 @@ module _ {r : ℕ} {t : Task} (valid : Valid r t) (g : Rules) where
   -- ── The positions of an attack ──
 
   -- a position reached that is lost, with its rank
-  abbrev LostIn : Position → ℕ → Type 0
+  abbrev pub LostIn : Position → ℕ → Type 0
   LostIn p k = (p ∈ reached g t) × (rank g t N p ≡ some k)
 
   -- a reached position that is lost within n rounds has a rank of at most n
@@ -149,7 +158,7 @@ module _ {r : ℕ} {t : Task} (valid : Valid r t) (g : Rules) where
       by-rank (some (suc j)) e m = by-attack j e (chosen g t j p) refl m
 
   -- the positions of the certificate
-  abbrev listed : List Position
+  abbrev pub listed : List Position
   listed = closed (lossStep g t N) (enough t) (t .start ∷ [])
 
   pub listed-computes : Computes (lossStep g t N) (t .start) listed

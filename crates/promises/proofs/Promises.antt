@@ -2,8 +2,9 @@
 -- Assumes nothing.
 use Prim.Native.Nat.{ℕ, suc, _≤_, _<_}
 use mathlib.Core.Path.{_≡_, refl, sym, _∙_, ap, subst}
-use mathlib.Core.Logic.{_⊎_, inl, inr, ⊎-elim, _↔_}
-use mathlib.Core.List.{List, []}
+use mathlib.Core.Logic.{_⊎_, inl, inr, ⊎-elim, _↔_, _≢_}
+use mathlib.Core.Bool.{true}
+use mathlib.Core.List.{List}
 use mathlib.Core.Option.{Option, none, some}
 use native.Mathlib.Omega.{arith}
 use lib.ListN.{length, take}
@@ -18,13 +19,16 @@ use Rattle.task.specs.Records.{TurnedBack}
 use Rattle.task.specs.declared.Answer.{Answer}
 use Rattle.task.specs.declared.Answer.the-variants.{Read, Refused as Unread}
 use Rattle.outcome.specs.Bytes.{cleared}
-use Rattle.outcome.specs.Verdicts.{Contest, equality}
+use Rattle.outcome.specs.Verdicts.{equality, kindOf}
 use Rattle.outcome.specs.Compare.{Outcome, compareTask, compare}
-use Rattle.outcome.specs.Refusals.{TableTooSmall, CertificateTooLong}
+use Rattle.outcome.specs.Check.{checkTask, check}
+use Rattle.outcome.specs.Refusals.{TableTooSmall, CertificateTooLong, Malformed, NotAccepted}
 use Rattle.outcome.specs.declared.Verdict.{Verdict}
 use Rattle.outcome.specs.declared.Verdict.the-variants.{Equal, Differ}
 use Rattle.outcome.specs.declared.Comparison.{Comparison}
 use Rattle.outcome.specs.declared.Comparison.the-variants.{Decided, Refused}
+use Rattle.outcome.specs.declared.Check.{Check}
+use Rattle.outcome.specs.declared.Check.the-variants.{Accepted, Refused as Rejected}
 use Rattle.numbers.specs.Numbers.{Setting, Opening, Enough, LeastEnough}
 use Rattle.fra_laws.proofs.Tests.{not-both}
 use Rattle.fra_laws.proofs.Lost.{NeverLost}
@@ -35,8 +39,12 @@ use Rattle.task_laws.proofs.Valid.{read-valid}
 use Rattle.task_laws.proofs.Refusals.{refused-exactly as unread-exactly}
 use Rattle.outcome_laws.proofs.Written.{reached-closed}
 use Rattle.outcome_laws.proofs.Compare.{Says, refused-exactly, late-outcome}
-use Rattle.number_laws.proofs.Agreement.{opening-exists, least-enough-iff-first-lost, never-enough-iff-never-lost}
-use Rattle.promises.proofs.Support.{taskOf, compared-read, compared-unread, decided-read, verdict-start, same-rank}
+use Rattle.outcome_laws.proofs.Encoding.{Bytes}
+use Rattle.outcome_laws.proofs.Check.{Accepts, accepts-kept, accepts-lost, check-accepts, check-accepted, check-refused}
+use Rattle.outcome_laws.proofs.Conditions.{kept-start-never-lost, listed-start-lost}
+use Rattle.outcome_laws.proofs.Own.{own-kept, own-lost}
+use Rattle.number_laws.proofs.Agreement.{opening-exists, enough-iff-lost, least-enough-iff-first-lost, never-enough-iff-never-lost}
+use Rattle.promises.proofs.Support.{taskOf, compared-read, compared-unread, decided-read, verdict-start, same-rank, written-part, checked-read, checked-unread, count-most, count-fits}
 
 -- ── Demand 1: a verdict, or a refusal in the case named for it and in no other ──
 
@@ -95,6 +103,40 @@ module _ (file table buffer : List ℕ) where
       ∙ late-outcome equality (taskOf file) table buffer n
       (ap (λ (o : Outcome). o .answer) (sym (compared-read equality file table buffer e)) ∙ h)
 
+-- ── Demand 1, of the checker ──
+
+kinds-differ : kindOf Equal ≢ kindOf Differ
+kinds-differ e = omega arith
+
+module _ (file certificate : List ℕ) (are-bytes : Bytes certificate) where
+  -- the case that 01 names for refusal n of the checker
+  abbrev pub CheckerRefusal : ℕ → Type 0
+  CheckerRefusal n =
+      TurnedBack n file
+      ⊎ (readTask file .answer ≡ Read)
+      × (((n ≡ 13) × Malformed maxRegisters equality (taskOf file) certificate)
+      ⊎ (n ≡ 14) × NotAccepted maxRegisters equality (taskOf file) certificate)
+
+  -- The checker gives refusal n exactly in that case.
+  pub checker-refuses-exactly : (n : ℕ) → (check equality file certificate ≡ Rejected n) ↔ CheckerRefusal n
+  checker-refuses-exactly n = by (readTask file .answer) refl
+    where
+      by : (a : Answer) → readTask file .answer ≡ a → (check equality file certificate ≡ Rejected n) ↔ CheckerRefusal n
+      by Read e =
+          let same = checked-read equality file certificate e in
+          let each = check-refused maxRegisters equality (taskOf file) kinds-differ certificate are-bytes n in (
+            λ h. inr (e, each .0 (sym same ∙ h)),
+            ⊎-elim
+                (λ back. let d = unread-exactly file n .1 back in let z : _≡_ {A = ℕ} 0 1 = cc in absurd (omega arith))
+                (λ (f, h). same ∙ each .1 h),
+          )
+      by (Unread m) e =
+          let same = checked-unread equality file certificate m e in (
+            λ h. let d : m ≡ n = cc in inl (unread-exactly file n .0 (e ∙ ap (λ (k : ℕ). Unread k) d)),
+            ⊎-elim (λ back. let d = unread-exactly file n .1 back in let f : m ≡ n = cc in same ∙ ap (λ (k : ℕ). Rejected k) f)
+                (λ (f, h). let z : _≡_ {A = ℕ} 0 1 = cc in absurd (omega arith)),
+          )
+
 -- ── Demand 2: EQUAL means that a symbolic bisimulation contains the start, DIFFER that there is none ──
 
 module _ (file table buffer : List ℕ) (positions n size : ℕ) where
@@ -124,6 +166,70 @@ module _ (file table buffer : List ℕ) (positions n size : ℕ) where
       lost-in-no-bisimulation bisimulation maxRegisters (taskOf file) n (taskOf file .start) (rank .lost))
       (verdict-start (read-valid file read) equality says)
 
+-- ── Demand 2, of the checker: it accepts what meets the published conditions, and only that ──
+
+module _ (file certificate : List ℕ) (are-bytes : Bytes certificate) (v : Verdict) (n : ℕ) where
+  -- The checker accepts exactly the bytes of rising lists of legal positions that meet the conditions of their kind.
+  pub accepted-exactly : (check equality file certificate ≡ Accepted v n)
+      ↔ ((readTask file .answer ≡ Read) × Accepts maxRegisters equality (taskOf file) certificate v n)
+  accepted-exactly = by (readTask file .answer) refl
+    where
+      each : (checkTask maxRegisters equality (taskOf file) certificate ≡ Accepted v n)
+          ↔ Accepts maxRegisters equality (taskOf file) certificate v n
+      each = check-accepted maxRegisters equality (taskOf file) kinds-differ certificate are-bytes v n
+
+      by : (a : Answer) → readTask file .answer ≡ a
+          → (check equality file certificate ≡ Accepted v n)
+          ↔ ((readTask file .answer ≡ Read) × Accepts maxRegisters equality (taskOf file) certificate v n)
+      by Read e =
+          let same = checked-read equality file certificate e in
+          (λ h. (e, each .0 (sym same ∙ h)), λ (f, a). same ∙ each .1 a)
+      by (Unread m) e =
+          let same = checked-unread equality file certificate m e in (
+            λ h. let z : _≡_ {A = ℕ} 0 1 = cc in absurd (omega arith),
+            λ (f, a). let z : _≡_ {A = ℕ} 0 1 = cc in absurd (omega arith),
+          )
+
+-- An accepted certificate of kind 16 shows that the start is never lost, one of kind 17 that it is lost within the listed rounds.
+pub accepted-shows : (file certificate : List ℕ) (v : Verdict) (n : ℕ)
+    → Accepts maxRegisters equality (taskOf file) certificate v n
+    → ((v ≡ Equal) × NeverLost bisimulation (taskOf file) (taskOf file .start))
+    ⊎ (v ≡ Differ) × (lostWithin bisimulation (taskOf file) n (taskOf file .start) ≡ true)
+accepted-shows file certificate v n (accepts-kept l e rises condition) =
+    inl (refl, kept-start-never-lost bisimulation (taskOf file) maxRegisters l condition)
+accepted-shows file certificate v n (accepts-lost l e are-legal are-words rises condition x m d) =
+    inr (refl, listed-start-lost bisimulation (taskOf file) l condition x m d)
+
+-- So of actual numbers, whoever wrote the certificate: no count is enough, or the listed rounds are.
+pub accepted-shows-of-numbers : (file certificate : List ℕ) → Bytes certificate → (v : Verdict) (n : ℕ)
+    → check equality file certificate ≡ Accepted v n
+    → (s : Setting) → Opening maxRegisters (taskOf file) s
+    → ((v ≡ Equal) × ((m : ℕ) → Enough bisimulation (taskOf file) m s → ⊥))
+    ⊎ (v ≡ Differ) × Enough bisimulation (taskOf file) n s
+accepted-shows-of-numbers file certificate are-bytes v n given s opening =
+    let (read, accepts) = accepted-exactly file certificate are-bytes v n .0 given in
+    let valid = read-valid file read in
+    ⊎-elim (λ (e, never). inl (e, never-enough-iff-never-lost maxRegisters (taskOf file) valid bisimulation s opening .1 never))
+    (λ (e, lost). inr (e, enough-iff-lost maxRegisters (taskOf file) valid bisimulation s opening n .1 lost))
+    (accepted-shows file certificate v n accepts)
+
+-- The comparer's own certificate is accepted, with the comparer's verdict and rounds.
+pub own-certificate-accepted : (file table buffer : List ℕ) (v : Verdict) (positions n size : ℕ)
+    → compare equality file table buffer .answer ≡ Decided v positions n size
+    → check equality file (take size (compare equality file table buffer .certificate)) ≡ Accepted v n
+own-certificate-accepted file table buffer v positions n size given =
+    let (read, says) = decided-read equality file table buffer v positions n size given in
+    let t = taskOf file in
+    let written = written-part equality file table buffer read says in
+    checked-read equality file _ read
+    ∙ ap (checkTask maxRegisters equality t) written
+    ∙ ⊎-elim
+    (λ (e, never, z).
+    rw (never, e, z) (own-kept (read-valid file read) equality kinds-differ never))
+    (λ (e, lost).
+    rw (lost, e) (own-lost (read-valid file read) equality kinds-differ (count-fits bisimulation file read) n lost))
+    (says .start)
+
 -- ── Demand 3: what a verdict says of actual numbers, for every opening ──
 
 module _ (file table buffer : List ℕ) (v : Verdict) (positions n size : ℕ)
@@ -137,6 +243,13 @@ module _ (file table buffer : List ℕ) (v : Verdict) (positions n size : ℕ)
   -- The task has an opening, so that what follows is not empty.
   pub task-has-an-opening : (s : Setting) × Opening maxRegisters (taskOf file) s
   task-has-an-opening = opening-exists maxRegisters (taskOf file) (read-valid file read)
+
+  -- "With 6 registers and 16 states a side there are at most 3,411,712 positions."
+  pub positions-at-most : positions ≤ 3411712
+  positions-at-most =
+      let most = count-most bisimulation file read in
+      let count = says .count in
+      omega arith
 
   -- The rounds never exceed the reported count of positions reached.
   pub rounds-within-positions : v ≡ Differ → n ≤ positions

@@ -1,28 +1,37 @@
 -- What a verdict on a task's bytes says of the task that they hold. Assumes nothing.
-use Prim.Native.Nat.{ℕ, suc, _≤_, _<_}
+use Prim.Native.Nat.{ℕ, suc, _≤_, _<_, _^_}
 use mathlib.Core.Path.{_≡_, refl, sym, _∙_, ap}
 use mathlib.Core.Logic.{_⊎_, inl, inr, ⊎-elim, _↔_}
 use mathlib.Core.List.{List}
 use mathlib.Core.Option.{Option, none, some}
 use native.Mathlib.Omega.{arith}
-use lib.ListN.{length}
+use lib.ListN.{length, take, drop}
+use lib.Seq.{take-at}
 use Rattle.fra.specs.Rules.{Rules}
 use Rattle.fra.specs.Reach.{reached, rounds}
 use Rattle.fra.specs.Valid.{Valid}
+use Rattle.fra.specs.declared.Side.the-variants.{Left, Right}
 use Rattle.fra.specs.declared.Position.{Position}
 use Rattle.fra.specs.declared.Task.{Task}
 use Rattle.task.specs.TaskFile.{readTask, maxRegisters}
 use Rattle.task.specs.declared.Answer.{Answer}
 use Rattle.task.specs.declared.Answer.the-variants.{Read, Refused as Unread}
 use Rattle.outcome.specs.Verdicts.{Contest}
+use Rattle.outcome.specs.Bytes.{thenRest}
+use Rattle.outcome.specs.Certificate.{certificateBy}
 use Rattle.outcome.specs.Compare.{Outcome, compareTask, compareRead, compare}
+use Rattle.outcome.specs.Check.{checkTask, checkRead, check}
 use Rattle.outcome.specs.declared.Verdict.{Verdict}
+use Rattle.outcome.specs.declared.Check.{Check}
+use Rattle.outcome.specs.declared.Check.the-variants.{Refused as Rejected}
 use Rattle.outcome.specs.declared.Comparison.{Comparison}
 use Rattle.outcome.specs.declared.Comparison.the-variants.{Decided, Refused}
+use Rattle.fra_laws.proofs.Count.{most-positions}
+use Rattle.fra_laws.proofs.Reached.{reached-unique, reached-legal}
 use Rattle.fra_laws.proofs.Lost.{NeverLost}
-use Rattle.fra_laws.proofs.Rounds.{HasRank, rank-least, rank-exactly, rank-never}
-use Rattle.fra_laws.proofs.Reached.{reached-start}
-use Rattle.outcome_laws.proofs.Written.{reached-closed}
+use Rattle.fra_laws.proofs.Rounds.{HasRank, rank-least}
+use Rattle.task_laws.proofs.Valid.{read-valid, read-limits}
+use Rattle.outcome_laws.proofs.Written.{rounds-never, rounds-least}
 use Rattle.outcome_laws.proofs.Compare.{Says, verdict-says}
 
 -- the task that a file holds
@@ -60,17 +69,6 @@ module _ (c : Contest) (file table buffer : List ℕ) where
           let z : _≡_ {A = ℕ} 0 1 = cc in
           absurd (omega arith)
 
--- ── The start's rounds ──
-
-module _ {r : ℕ} {t : Task} (valid : Valid r t) (g : Rules) where
-  pub rounds-never : (rounds g t (t .start) ≡ none) ↔ NeverLost g t (t .start)
-  unfolding rounds
-  rounds-never = rank-never g t (reached g t) (reached-closed valid g) (t .start) (reached-start valid g)
-
-  pub rounds-least : (n : ℕ) → rounds g t (t .start) ≡ some n → HasRank g t (t .start) n × (n ≤ length (reached g t))
-  unfolding rounds
-  rounds-least n e = rank-exactly g t (length (reached g t)) (t .start) n .0 e
-
 -- what a verdict says of the start: it is never lost, or it is lost within n rounds and not within fewer
 pub verdict-start : {r : ℕ} {t : Task} → Valid r t
     → (c : Contest) {table buffer : List ℕ} {v : Verdict} {positions n size : ℕ} → Says c t table buffer v positions n size
@@ -90,3 +88,36 @@ same-rank {g} {t} {n = n} {m = m} a b =
     let x = rank-least g t m a (b .lost) in
     let y = rank-least g t n b (a .lost) in
     omega arith
+
+-- the part of the certificate buffer that a verdict's length names is the certificate
+pub written-part : (c : Contest) (file table buffer : List ℕ) {v : Verdict} {positions n size : ℕ}
+    → readTask file .answer ≡ Read
+    → Says c (taskOf file) table buffer v positions n size
+    → take size (compare c file table buffer .certificate)
+    ≡ certificateBy c (taskOf file) (rounds (c .rules) (taskOf file) (taskOf file .start))
+unfolding thenRest
+written-part c file table buffer {size = size} read says =
+    let written = certificateBy c (taskOf file) (rounds (c .rules) (taskOf file) (taskOf file .start)) in
+    ap (λ (o : Outcome). take size (o .certificate)) (compared-read c file table buffer read ∙ says .outcome)
+    ∙ take-at written (drop (length written) buffer) size (sym (says .bytes))
+
+-- ── The checker, from bytes to the task ──
+
+module _ (c : Contest) (file certificate : List ℕ) where
+  pub checked-read : readTask file .answer ≡ Read → check c file certificate ≡ checkTask maxRegisters c (taskOf file) certificate
+  unfolding check checkRead
+  checked-read e = rw e
+
+  pub checked-unread : (n : ℕ) → readTask file .answer ≡ Unread n → check c file certificate ≡ Rejected n
+  unfolding check checkRead
+  checked-unread n e = rw e
+
+-- the count of positions reached is at most the count of legal ones, and fits four bytes
+pub count-most : (g : Rules) (file : List ℕ) → readTask file .answer ≡ Read → length (reached g (taskOf file)) ≤ 3411712
+count-most g file read =
+    let valid = read-valid file read in
+    most-positions valid (read-limits file read Left .0) (read-limits file read Right .0) (reached g (taskOf file))
+    (reached-unique valid g) (reached-legal valid g)
+
+pub count-fits : (g : Rules) (file : List ℕ) → readTask file .answer ≡ Read → length (reached g (taskOf file)) < 2 ^ 32
+count-fits g file read = let most = count-most g file read in omega arith

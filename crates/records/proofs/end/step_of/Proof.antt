@@ -1,0 +1,11 @@
+-- `records::end::step_of` meets its contract. Assumes nothing.
+use Rattle.task.specs.TaskFile.{endAt}
+use Rattle.records.proofs.end.step_of.Statement.{statement}
+use Rattle.records.proofs.end.step_of.Tie as tie
+
+returns : tie.Need-returns
+unfolding endAt
+returns c = c .next .ensures
+
+pub step-of-spec : {M : Type 1} → statement M
+step-of-spec = tie.close (tie.spec (λ c κs. tt) returns)

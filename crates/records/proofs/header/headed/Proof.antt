@@ -1,0 +1,12 @@
+-- `records::header::headed` meets its contract. Assumes nothing.
+use mathlib.Core.Path.{refl}
+use Rattle.task.specs.TaskFile.{headed}
+use Rattle.records.proofs.header.headed.Statement.{statement}
+use Rattle.records.proofs.header.headed.Tie as tie
+
+returns : tie.Need-returns
+unfolding headed
+returns c = refl
+
+pub headed-spec : {M : Type 1} → statement M
+headed-spec = tie.close (tie.spec returns)

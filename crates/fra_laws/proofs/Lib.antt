@@ -11,3 +11,4 @@ pub mod Reached
 pub mod Lost
 pub mod Rounds
 pub mod Bisimulation
+pub mod Successors

@@ -38,13 +38,13 @@ module _ (g : Rules) (t : Task) where
   pub rank-least : {p : Position} {j : ℕ} (k : ℕ) → HasRank g t p j → lostWithin g t k p ≡ true → j ≤ k
   rank-least {p} {j} k r h = elim (decLe j k) [ yes d ↦ d | no d ↦ absurd (not-both _ h (r .not-before k (omega arith))) ]
 
-  rank-some : (n : ℕ) (p : Position) (k : ℕ) → rank g t n p ≡ some k → HasRank g t p k × (k ≤ n)
+  pub rank-some : (n : ℕ) (p : Position) (k : ℕ) → rank g t n p ≡ some k → HasRank g t p k × (k ≤ n)
   unfolding rank
   rank-some n p k e =
       let (h, b, u) = least-found (λ j. lostWithin g t j p) 0 (suc n) k e in
       (record { lost = h; not-before = λ j. u j (omega arith) }, omega arith)
 
-  rank-none : (n : ℕ) (p : Position) → rank g t n p ≡ none → lostWithin g t n p ≡ false
+  pub rank-none : (n : ℕ) (p : Position) → rank g t n p ≡ none → lostWithin g t n p ≡ false
   unfolding rank
   rank-none n p e = least-none (λ j. lostWithin g t j p) 0 (suc n) e n (omega arith) (omega arith)
 
@@ -82,10 +82,10 @@ module _ (g : Rules) (t : Task) where
     -- ── Levels of a closed list: at each level a member is newly lost, until none is any more ──
 
     -- a member not lost within k rounds is not lost within k + 1
-    abbrev Settled : ℕ → Type 0
+    abbrev pub Settled : ℕ → Type 0
     Settled k = (p : Position) → p ∈ l → lostWithin g t k p ≡ false → lostWithin g t (suc k) p ≡ false
 
-    settled-never-lost : (k : ℕ) → Settled k → (p : Position) → p ∈ l → lostWithin g t k p ≡ false → NeverLost g t p
+    pub settled-never-lost : (k : ℕ) → Settled k → (p : Position) → p ∈ l → lostWithin g t k p ≡ false → NeverLost g t p
     settled-never-lost k s p m h =
         answered-never-lost g t (λ q. (q ∈ l) × (lostWithin g t k q ≡ false))
         (λ q (i, e). sym (lost-at-once g t q) ∙ not-lost-within-fewer g t 0 k q (omega arith) e)

@@ -1,25 +1,53 @@
 -- Register sets of one byte, and a test of every register from one on. Assumes nothing.
-use Prim.Native.Nat.{ℕ, zero, suc, _+_, _-_, _≤_, _<_, _/_, _%_, _^_}
-use mathlib.Core.Path.{_≡_, refl, sym, _∙_, ap}
-use mathlib.Core.Bool.{Bool, true, false, not, _&&_, _||_}
-use native.Mathlib.Nat.{div-eq-of-lt, pow-le-pow-right, lt-of-lt-of-le}
+use Prim.Native.Nat.{ℕ, zero, suc, _+_, _-_, _*_, _≤_, _<_, _/_, _%_, _^_}
+use mathlib.Core.Path.{_≡_, refl}
+use mathlib.Core.Bool.{Bool, true, false, not, _||_, false≢true, or-false}
+use native.Mathlib.Nat.{div-eq-of-lt, le-div-iff-mul-le, one-le-pow, pow-le-pow-right, lt-of-lt-of-le, one-mul}
 use native.Mathlib.Numerals.{add-one}
 use native.Mathlib.Omega.{arith}
-use lib.Dec.{eqb, lit<}
-use Rattle.fra_laws.proofs.Tests.{or-right}
+use lib.Dec.{leb, eqb, lit<, eqb·zero-suc}
+use borrow.Author.Tests.{ne-eqb, leb-true, leb-false, lt-leb}
 use Rattle.fra.specs.Lists.{all, count}
 use Rattle.fra.specs.Registers.{has, inside, with}
+use Rattle.fra_laws.proofs.Tests.{or-right}
+
+-- ── The registers of a set ──
+
+-- one byte is below every power of two from the eighth on
+below-power : (n k : ℕ) → n < 256 → 8 ≤ k → n < 2 ^ k
+below-power n k p q = lt-of-lt-of-le p (pow-le-pow-right {n = 2} (lit< tt) {i = 8} {j = k} q)
+
+pub has-positive : (set i : ℕ) → has set i ≡ true → 1 ≤ i
+unfolding has
+has-positive set zero e = absurd (false≢true e)
+has-positive set (suc i) e = omega arith
 
 -- a set of one byte has no register past the eighth
 pub has-none : (set i : ℕ) → set < 256 → 8 < i → has set i ≡ false
 unfolding has
 has-none set zero p q = refl
-has-none set (suc k) p q = rw (div-eq-of-lt (lt-of-lt-of-le p (pow-le-pow-right {n = 2} (lit< tt) {i = 8} {j = k} (omega arith))))
+has-none set (suc k) p q = rw (div-eq-of-lt (below-power set k p (omega arith)))
 
 pub has-bit : (set i : ℕ) → 0 < i → has set i ≡ eqb (set / 2 ^ (i - 1) % 2) 1
 unfolding has
 has-bit set zero p = absurd (omega arith)
 has-bit set (suc k) p = let e : suc k - 1 ≡ k = omega arith in rw e
+
+-- the bits from bit r on are those of the registers past r
+pub overrun : (set r : ℕ) → not (eqb (set / 2 ^ r) 0) ≡ leb (2 ^ r) set
+overrun set r = step (leb (2 ^ r) set) refl
+  where
+    step : (t : Bool) → leb (2 ^ r) set ≡ t → not (eqb (set / 2 ^ r) 0) ≡ leb (2 ^ r) set
+    step true e =
+        let f : 1 * 2 ^ r ≤ set = rw one-mul (leb-true (2 ^ r) set e) in
+        let h : 1 ≤ set / 2 ^ r = le-div-iff-mul-le (one-le-pow r 2 (lit< tt)) .1 f in
+        rw (e, ne-eqb (set / 2 ^ r) 0 (λ z. absurd (omega arith)))
+    step false e = rw (e, div-eq-of-lt (leb-false (2 ^ r) set e))
+
+pub no-overrun : (set r : ℕ) → set < 256 → 8 ≤ r → leb (2 ^ r) set ≡ false
+no-overrun set r p q = lt-leb (2 ^ r) set (below-power set r p q)
+
+-- ── A test of the registers from one on ──
 
 -- the numbers from i to r
 abbrev pub upTo : ℕ → ℕ → (ℕ → Bool) → Bool
@@ -48,6 +76,8 @@ module _ (f : ℕ → Bool) (i r : ℕ) where
   unfolding all count
   all-end p = let n : suc r - i ≡ 0 = omega arith in rw n
 
+-- ── A set inside another ──
+
 module _ (set other added i : ℕ) where
   -- register i is in the set only if it is in the other one or is added
   abbrev pub stays : Bool
@@ -63,3 +93,17 @@ module _ (set other added i : ℕ) where
   pub stays-added : has set i ≡ true → has other i ≡ false → stays ≡ eqb added i
   unfolding with
   stays-added p q = rw (p, q)
+
+-- register 0 adds nothing to a set
+pub add-nothing : (r set other : ℕ) → inside r set (with other 0) ≡ inside r set (has other)
+unfolding inside with all count
+add-nothing r set other = same 0 r
+  where
+    one : (j : ℕ) → (has other (suc j) || eqb 0 (suc j)) ≡ has other (suc j)
+    one j = rw (eqb·zero-suc j) (or-false (has other (suc j)))
+
+    same : (k n : ℕ)
+        → all (λ i. not (has set i) || (has other i || eqb 0 i)) (count (suc k) n)
+        ≡ all (λ i. not (has set i) || has other i) (count (suc k) n)
+    same k zero = refl
+    same k (suc n) = rw (one k, same (suc k) n)

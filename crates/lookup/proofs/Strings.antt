@@ -1,13 +1,13 @@
 -- What `any` and `below` give from a place of a string on, and at the next place. Assumes nothing.
-use Prim.Native.Nat.{ℕ, zero, suc, _+_, _≤_, _<_}
-use mathlib.Core.Path.{_≡_, refl, sym, _∙_, ap}
-use mathlib.Core.Bool.{Bool, true, false, _&&_, _||_}
-use mathlib.Core.List.{List, [], _∷_}
+use Prim.Native.Nat.{ℕ, _+_, _≤_, _<_}
+use mathlib.Core.Path.{_≡_, refl}
+use mathlib.Core.Bool.{Bool, true, false, or-false}
+use mathlib.Core.List.{List}
 use native.Mathlib.Numerals.{add-one}
 use native.Mathlib.Omega.{arith}
 use lib.ListN.{length, getD, drop, drop-of-length-le}
 use lib.Seq.{drop-cons}
-use lib.Dec.{ltb, eqb}
+use lib.Dec.{ltb}
 use borrow.Author.Tests.{eq-eqb, ne-eqb, le-ltb, ltb-true, ltb-false}
 use Rattle.fra.specs.Lists.{any, below}
 
@@ -31,19 +31,17 @@ module _ (a b : List ℕ) (i : ℕ) where
   pub below-here : i < length a → i < length b → (getD a i 0 ≡ getD b i 0 → ⊥)
       → below (drop i a) (drop i b) ≡ ltb (getD a i 0) (getD b i 0)
   unfolding below
-  below-here p q n = rw (drop-cons a i 0, drop-cons b i 0, ne-eqb (getD a i 0) (getD b i 0) n) (or-none (ltb (getD a i 0) (getD b i 0)))
-    where
-      or-none : (t : Bool) → (t || false) ≡ t
-      or-none true = refl
-      or-none false = refl
+  below-here p q n =
+      let apart = ne-eqb (getD a i 0) (getD b i 0) n in
+      rw (drop-cons a i 0, drop-cons b i 0, apart) (or-false (ltb (getD a i 0) (getD b i 0)))
 
   -- they agree here, so it is left to what follows
   pub below-later : i < length a → i < length b → getD a i 0 ≡ getD b i 0
       → below (drop i a) (drop i b) ≡ below (drop (i + 1) a) (drop (i + 1) b)
   unfolding below
   below-later p q e =
-      rw
-      (drop-cons a i 0, drop-cons b i 0, le-ltb (getD a i 0) (getD b i 0) (omega arith), eq-eqb (getD a i 0) (getD b i 0) e, add-one)
+      let same = le-ltb (getD a i 0) (getD b i 0) (omega arith) in
+      rw (drop-cons a i 0, drop-cons b i 0, same, eq-eqb (getD a i 0) (getD b i 0) e, add-one)
 
   pub below-longer : i < length a → length b ≤ i → below (drop i a) (drop i b) ≡ false
   unfolding below

@@ -1,6 +1,6 @@
 -- Every record keeps what is known of the state that is due. Assumes nothing.
 use Prim.Native.Nat.{ℕ, zero, suc, _+_, _≤_, _<_}
-use mathlib.Core.Path.{_≡_, refl, sym, _∙_, subst}
+use mathlib.Core.Path.{_≡_, refl, sym, subst}
 use mathlib.Core.Bool.{Bool, true, false, cond, _||_}
 use mathlib.Core.List.{List}
 use native.Mathlib.Omega.{arith}
@@ -12,7 +12,6 @@ use Rattle.fra.specs.declared.Model.{Model}
 use Rattle.fra.specs.declared.Side.{Side}
 use Rattle.fra.specs.declared.Side.the-variants.{Left, Right}
 use Rattle.fra.specs.declared.Task.{Task}
-use Rattle.fra_laws.proofs.Tests.{or-false-left, or-false-right}
 use Rattle.task.specs.TaskFile.{refuse, withModel, headerRefusal, headed, withHeader, headerAt, header, stateRefusal, withState, afterState, stateAt, state, edgeRefusal, edgeAt, edge, pairRefusal, pairAt, pair, endAt, end, RecordKind, isHeader, isState, isEdge, isPair, isEnd, step}
 use Rattle.task.specs.declared.Stage.{Stage}
 use Rattle.task.specs.declared.Stage.the-variants.{Start, States, Edges, Pairs, Ended}
@@ -34,15 +33,16 @@ positive n e = omega arith
 -- a header that is not refused announces at least one state and at most 16
 header-count : (r s q : ℕ) → headerRefusal r s q ≡ 0 → (0 < s) × (s ≤ 16)
 unfolding headerRefusal
-header-count r s q e =
-    let none : (ltb 6 r || eqb s 0 || ltb 16 s || leb s q) ≡ false = passed (ltb 6 r || eqb s 0 || ltb 16 s || leb s q) e in
-    let most = or-false-left (ltb 6 r || eqb s 0 || ltb 16 s) (leb s q) none in
-    let some : s ≡ 0 → ⊥ = eqb-false s 0 (or-false-right (ltb 6 r) (eqb s 0) (or-false-left (ltb 6 r || eqb s 0) (ltb 16 s) most)) in
-    (omega arith, ltb-false 16 s (or-false-right (ltb 6 r || eqb s 0) (ltb 16 s) most))
+header-count r s q e = by (ltb 6 r) (eqb s 0) refl (ltb 16 s) refl (leb s q) e
   where
-    passed : (t : Bool) → _≡_ {A = ℕ} (cond t 4 0) 0 → t ≡ false
-    passed true e = absurd (omega arith)
-    passed false e = refl
+    by : (a b : Bool) → eqb s 0 ≡ b → (c : Bool) → ltb 16 s ≡ c → (d : Bool)
+        → _≡_ {A = ℕ} (cond (a || b || c || d) 4 0) 0
+        → (0 < s) × (s ≤ 16)
+    by false false f false g false e = let n = eqb-false s 0 f in (omega arith, ltb-false 16 s g)
+    by true b f c g d e = absurd (omega arith)
+    by false true f c g d e = absurd (omega arith)
+    by false false f true g d e = absurd (omega arith)
+    by false false f false g true e = absurd (omega arith)
 
 -- after a state the next one of its model is due, if there is one
 own-model : (t : Task) (s : Side) (u : Model) → modelOf (withModel t s u) s ≡ u
@@ -55,7 +55,8 @@ after-due : (t : Task) (s : Side) (q : ℕ) → Due (States s q) t → (u : Mode
 unfolding afterState
 after-due t s q d u c = by (eqb (q + 1) (modelOf t s .«state_count»)) refl
   where
-    by : (b : Bool) → eqb (q + 1) (modelOf t s .«state_count») ≡ b → Due (afterState (modelOf t s) s q) (withModel t s u)
+    by : (b : Bool) → eqb (q + 1) (modelOf t s .«state_count») ≡ b
+        → Due (afterState (modelOf t s) s q) (withModel t s u)
     by true e = rw e tt
     by false e =
         let n = eqb-false (q + 1) (modelOf t s .«state_count») e in
@@ -66,14 +67,16 @@ module _ (p : Progress) (body : List ℕ) where
   unfolding withHeader headed
   header-at s = by (headerRefusal (getD body 0 0) (getD body 1 0) (getD body 2 0)) refl
     where
-      due : (s : Side) (m : Model) → (0 < m .«state_count») × (m .«state_count» ≤ 16) → Due (States s 0) (withHeader (p .task) s m)
+      due : (s : Side) (m : Model) → (0 < m .«state_count») × (m .«state_count» ≤ 16)
+          → Due (States s 0) (withHeader (p .task) s m)
       due Left m h = h
       due Right m h = h
 
       by : (n : ℕ) → n ≡ headerRefusal (getD body 0 0) (getD body 1 0) (getD body 2 0) → Kept (headerAt s p body)
       by zero e =
+          let count = header-count (getD body 0 0) (getD body 1 0) (getD body 2 0) (sym e) in
           subst Kept (header-taken s p body refl refl refl e refl refl refl)
-          (λ z. due s (headed (getD body 0 0) (getD body 1 0) (getD body 2 0)) (header-count (getD body 0 0) (getD body 1 0) (getD body 2 0) (sym e)))
+          (λ z. due s (headed (getD body 0 0) (getD body 1 0) (getD body 2 0)) count)
       by (suc n) e =
           subst Kept (header-refused s p body refl refl refl (suc n) e (positive n)) (refusing (suc n) p (positive n))
 
@@ -87,7 +90,8 @@ module _ (p : Progress) (body : List ℕ) where
           subst Kept (state-taken s p body refl refl refl refl q e refl refl refl refl)
           (λ z. after-due (p .task) s q d (withState (modelOf (p .task) s) q (getD body 1 0) (getD body 2 0)) refl)
       by (suc n) e =
-          subst Kept (state-refused s p body refl refl refl refl q (suc n) e (positive n)) (refusing (suc n) p (positive n))
+          subst Kept (state-refused s p body refl refl refl refl q (suc n) e (positive n))
+          (refusing (suc n) p (positive n))
 
   edge-at : (s : Side) → Kept (edgeAt s p body)
   edge-at s = by (edgeRefusal (modelOf (p .task) s) body) refl

@@ -1,5 +1,5 @@
 -- What the flag of a chain of tests holds where the ways around one of them meet. Assumes nothing.
-use mathlib.Core.Path.{_≡_, refl, sym, _∙_}
+use mathlib.Core.Path.{_≡_, _∙_}
 use mathlib.Core.Bool.{Bool, true, false, _&&_, _||_}
 
 -- f && b: where f passed, the flag is b, and else f

@@ -1,15 +1,14 @@
 -- What the tests of a record's own rule decide, one by one. Assumes nothing.
-use Prim.Native.Nat.{ℕ, zero, suc, _+_, _-_, _*_, _≤_, _<_, _/_, _^_}
-use mathlib.Core.Path.{_≡_, refl, sym, _∙_, ap, subst}
+use Prim.Native.Nat.{ℕ, zero, suc, _-_, _≤_, _<_}
+use mathlib.Core.Path.{_≡_, refl, sym, _∙_}
 use mathlib.Core.Bool.{Bool, true, false, not, cond, _&&_, _||_, true≢false, false≢true}
 use mathlib.Core.Logic.{_⊎_, inl, inr}
-use mathlib.Core.List.{List, [], _∷_}
-use native.Mathlib.Nat.{div-eq-of-lt, le-div-iff-mul-le, one-le-pow, pow-le-pow-right, lt-of-lt-of-le, one-mul}
+use mathlib.Core.List.{List}
 use native.Mathlib.Omega.{arith}
-use lib.ListN.{getD, drop}
-use lib.Dec.{ltb, leb, eqb, lit<, eqb·zero-suc}
-use borrow.Author.Tests.{eq-eqb, ne-eqb, leb-true, leb-false, le-leb, lt-leb}
-use Rattle.fra.specs.Lists.{all, any, count, below}
+use lib.ListN.{getD}
+use lib.Dec.{ltb, leb, eqb}
+use borrow.Author.Tests.{eq-eqb, ne-eqb, leb-false, le-leb, lt-leb}
+use Rattle.fra.specs.Lists.{any, below}
 use Rattle.fra.specs.Registers.{has, inside, with}
 use Rattle.fra.specs.Model.{setOf, edgeOf, edgeBytes}
 use Rattle.fra.specs.declared.Edge.{Edge}
@@ -17,24 +16,10 @@ use Rattle.fra.specs.declared.EdgeKind.{EdgeKind}
 use Rattle.fra.specs.declared.Model.{Model}
 use Rattle.fra.specs.declared.Task.{Task}
 use Rattle.fra.specs.declared.EdgeKind.the-variants.{Known, GloballyFresh}
-use Rattle.fra_laws.proofs.Tests.{not-both, passes-unless}
+use Rattle.fra_laws.proofs.Tests.{passes-unless}
 use Rattle.task.specs.TaskFile.{kindOf, edgeOfBody, edgeExists, keepsRule, rises, edgeRefusal, rising, pairRefusal}
-
--- ── States ──
-
--- bits from bit r on are those of registers past r
-pub overrun : (set r : ℕ) → not (eqb (set / 2 ^ r) 0) ≡ leb (2 ^ r) set
-overrun set r = step (leb (2 ^ r) set) refl
-  where
-    step : (t : Bool) → leb (2 ^ r) set ≡ t → not (eqb (set / 2 ^ r) 0) ≡ leb (2 ^ r) set
-    step true e =
-        let h : 1 ≤ set / 2 ^ r = le-div-iff-mul-le (one-le-pow r 2 (lit< tt)) .1 (rw one-mul (leb-true (2 ^ r) set e)) in
-        rw (e, ne-eqb (set / 2 ^ r) 0 (λ z. absurd (omega arith)))
-    step false e = rw (e, div-eq-of-lt (leb-false (2 ^ r) set e))
-
--- a set of one byte has no register past the eighth
-pub no-overrun : (set r : ℕ) → set < 256 → 8 ≤ r → leb (2 ^ r) set ≡ false
-no-overrun set r p q = lt-leb (2 ^ r) set (lt-of-lt-of-le p (pow-le-pow-right {n = 2} (lit< tt) {i = 8} {j = r} q))
+use Rattle.lookup.proofs.Registers.{has-positive, add-nothing}
+use Rattle.records.specs.Ruled.{ruled}
 
 -- ── Edges ──
 
@@ -42,22 +27,6 @@ pub kind-rest : (n i : ℕ) → (n ≡ 0 → ⊥) → (n ≡ 1 → ⊥) → kind
 kind-rest zero i p q = absurd (p refl)
 kind-rest (suc zero) i p q = absurd (q refl)
 kind-rest (suc (suc n)) i p q = refl
-
--- register 0 adds nothing to a set
-all-same : (f g : ℕ → Bool) (k n : ℕ) → ((j : ℕ) → f (suc j) ≡ g (suc j)) → all f (count (suc k) n) ≡ all g (count (suc k) n)
-unfolding all count
-all-same f g k zero h = refl
-all-same f g k (suc n) h = rw (h k, all-same f g (suc k) n h)
-
-pub add-nothing : (r set other : ℕ) → inside r set (with other 0) ≡ inside r set (has other)
-unfolding inside with
-add-nothing r set other =
-    all-same (λ i. not (has set i) || with other 0 i) (λ i. not (has set i) || has other i) 0 r
-    (λ j. ap (λ t. not (has set (suc j)) || t) (ap (λ t. has other (suc j) || t) (eqb·zero-suc j) ∙ or-none (has other (suc j))))
-  where
-    or-none : (t : Bool) → (t || false) ≡ t
-    or-none true = refl
-    or-none false = refl
 
 module _ (r from to i : ℕ) where
   pub known-inside : has from i ≡ true → keepsRule r from to (Known i) ≡ inside r to (with from 0)
@@ -82,10 +51,27 @@ module _ (body : List ℕ) {from tag kind i to : ℕ}
     body-edge e = rw (e, e₀, e₁, e₂, e₃, e₄)
 
     pub body-exists : (m : Model)
-        → (ltb from (m .«state_count») && ltb tag 32 && leb kind 2 && leb 1 i && leb i (m .registers) && ltb to (m .«state_count»))
+        → (ltb from (m .«state_count»)
+        && ltb tag 32
+        && leb kind 2
+        && leb 1 i
+        && leb i (m .registers)
+        && ltb to (m .«state_count»))
         ≡ edgeExists m body
     unfolding edgeExists
     body-exists m = rw (e₀, e₁, e₂, e₃, e₄)
+
+-- the test of the kind's rule, from the bytes that it reads
+pub ruled-of : (m : Model) (body : List ℕ) {from kind i to f t : ℕ} {k : EdgeKind}
+    → from ≡ getD body 0 0
+    → kind ≡ getD body 2 0
+    → i ≡ getD body 3 0
+    → to ≡ getD body 4 0
+    → f ≡ setOf m from
+    → t ≡ setOf m to
+    → k ≡ kindOf kind i
+    → keepsRule (m .registers) f t k ≡ ruled m body
+ruled-of m body e₀ e₂ e₃ e₄ ef et ek = rw (ek, et, ef, e₀, e₂, e₃, e₄)
 
 module _ (m : Model) (body : List ℕ) where
   pub rises-first : m .«edge_count» ≡ 0 → rises m body ≡ true
@@ -100,32 +86,26 @@ module _ (m : Model) (body : List ℕ) where
   unfolding rises
   rises-later n el eb = rw (ne-eqb (m .«edge_count») 0 n, eb, el)
 
-  -- the test of the kind's rule
-  abbrev pub keeps : Bool
-  keeps = keepsRule (m .registers) (setOf m (getD body 0 0)) (setOf m (getD body 4 0)) (kindOf (getD body 2 0) (getD body 3 0))
-
-  pub keeps-of : {from kind i to : ℕ} {f t : ℕ} {k : EdgeKind} → from ≡ getD body 0 0 → kind ≡ getD body 2 0 → i ≡ getD body 3 0 → to ≡ getD body 4 0
-      → f ≡ setOf m from → t ≡ setOf m to → k ≡ kindOf kind i → keepsRule (m .registers) f t k ≡ keeps
-  keeps-of e₀ e₂ e₃ e₄ ef et ek = rw (ek, et, ef, e₀, e₂, e₃, e₄)
-
   -- the refusals in their order
   pub edge-6 : edgeExists m body ≡ false → edgeRefusal m body ≡ 6
   unfolding edgeRefusal
   edge-6 e = rw e
 
-  pub edge-7 : edgeExists m body ≡ true → keeps ≡ false → edgeRefusal m body ≡ 7
+  pub edge-7 : edgeExists m body ≡ true → ruled m body ≡ false → edgeRefusal m body ≡ 7
   unfolding edgeRefusal
   edge-7 e k = rw (e, k)
 
-  pub edge-8 : edgeExists m body ≡ true → keeps ≡ true → rises m body ≡ false → edgeRefusal m body ≡ 8
+  pub edge-8 : edgeExists m body ≡ true → ruled m body ≡ true → rises m body ≡ false → edgeRefusal m body ≡ 8
   unfolding edgeRefusal
   edge-8 e k r = rw (e, k, r)
 
-  pub edge-9 : edgeExists m body ≡ true → keeps ≡ true → rises m body ≡ true → 64 ≤ m .«edge_count» → edgeRefusal m body ≡ 9
+  pub edge-9 : edgeExists m body ≡ true → ruled m body ≡ true → rises m body ≡ true → 64 ≤ m .«edge_count»
+      → edgeRefusal m body ≡ 9
   unfolding edgeRefusal
   edge-9 e k r h = rw (e, k, r, le-leb 64 (m .«edge_count») h)
 
-  pub edge-0 : edgeExists m body ≡ true → keeps ≡ true → rises m body ≡ true → m .«edge_count» < 64 → edgeRefusal m body ≡ 0
+  pub edge-0 : edgeExists m body ≡ true → ruled m body ≡ true → rises m body ≡ true → m .«edge_count» < 64
+      → edgeRefusal m body ≡ 0
   unfolding edgeRefusal
   edge-0 e k r h = rw (e, k, r, lt-leb 64 (m .«edge_count») h)
 
@@ -134,11 +114,11 @@ module _ (m : Model) (body : List ℕ) where
   unfolding edgeRefusal
   edge-room e =
       leb-false 64 (m .«edge_count»)
-      (last (edgeExists m body)
-      keeps
-      (rises m body) (leb 64 (m .«edge_count»)) e)
+      (last (edgeExists m body) (ruled m body) (rises m body) (leb 64 (m .«edge_count»)) e)
     where
-      last : (a b c d : Bool) → _≡_ {A = ℕ} (cond (not a) 6 (cond (not b) 7 (cond (not c) 8 (cond d 9 0)))) 0 → d ≡ false
+      last : (a b c d : Bool)
+          → _≡_ {A = ℕ} (cond (not a) 6 (cond (not b) 7 (cond (not c) 8 (cond d 9 0)))) 0
+          → d ≡ false
       last a b c false e = refl
       last false b c true e = absurd (omega arith)
       last true false c true e = absurd (omega arith)
@@ -146,12 +126,6 @@ module _ (m : Model) (body : List ℕ) where
       last true true true true e = absurd (omega arith)
 
 -- ── Pairs ──
-
--- a set has no register 0
-pub has-positive : (set i : ℕ) → has set i ≡ true → 1 ≤ i
-unfolding has
-has-positive set zero e = absurd (not-both false e refl)
-has-positive set (suc i) e = omega arith
 
 module _ (t : Task) (l r : ℕ) where
   -- the four tests of a pair
@@ -169,7 +143,8 @@ module _ (t : Task) (l r : ℕ) where
   unfolding pairRefusal
   pair-0 p q h u = rw (p, q, h, u)
 
-  pub pair-10 : (leftHeld ≡ false) ⊎ ((rightHeld ≡ false) ⊎ ((rising (t .start .partners) l ≡ false) ⊎ (reused ≡ true)))
+  pub pair-10 :
+      (leftHeld ≡ false) ⊎ ((rightHeld ≡ false) ⊎ ((rising (t .start .partners) l ≡ false) ⊎ (reused ≡ true)))
       → pairRefusal t l r ≡ 10
   unfolding pairRefusal
   pair-10 = fails leftHeld rightHeld (rising (t .start .partners) l) reused
@@ -187,7 +162,9 @@ module _ (t : Task) (l r : ℕ) where
 
   -- a pair that is taken has a left register
   pub pair-positive : pairRefusal t l r ≡ 0 → 1 ≤ l
-  pair-positive e = has-positive (setOf (t .left) (t .left .start)) l (passes-unless leftHeld (λ f. clash (sym (pair-10 (inl f)) ∙ e)))
+  pair-positive e =
+      has-positive (setOf (t .left) (t .left .start)) l
+      (passes-unless leftHeld (λ f. clash (sym (pair-10 (inl f)) ∙ e)))
     where
       clash : _≡_ {A = ℕ} 10 0 → ⊥
       clash h = omega arith

@@ -1,5 +1,5 @@
--- What a record does at its place, from the values that a function computes on the way: its own rule refuses it, or the task
--- goes on. Assumes nothing.
+-- What a record does at its place, from the values that a function computes on the way: its own rule refuses it, or the
+-- task goes on. Assumes nothing.
 use Prim.Native.Nat.{ℕ, zero, suc}
 use mathlib.Core.Path.{_≡_, refl, sym, _∙_}
 use mathlib.Core.List.{List}
@@ -29,7 +29,8 @@ module _ (s : Side) (p : Progress) (body : List ℕ) where
         → next (record { stage = States s 0; task = t }) ≡ headerAt s p body
     unfolding headerAt
     header-taken e z em et =
-        let none : headerRefusal (getD body 0 0) (getD body 1 0) (getD body 2 0) ≡ 0 = rw (← ea, ← eb, ← ed) (sym e ∙ z) in
+        let none : headerRefusal (getD body 0 0) (getD body 1 0) (getD body 2 0) ≡ 0 = rw (← ea, ← eb, ← ed) (sym e ∙ z)
+        in
         rw (none, et, em, ea, eb, ed, headerAt)
 
     module _ {m : Model} (em : m ≡ modelOf (p .task) s) (due : ℕ) where

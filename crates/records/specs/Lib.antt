@@ -1,2 +1,3 @@
--- What a reader keeps of the task as far as it is read.
+-- What the contracts of the records cite beside the definitions of the task file.
 pub mod Due
+pub mod Ruled

@@ -14,6 +14,7 @@ ghost use Prim.Native.Nat.{_<_};
 ghost use mathlib.Core.Path.{_≡_};
 ghost use Rattle.fra.specs.Model.{edgeBytes};
 ghost use Rattle.task.specs.TaskFile.{maxEdges, kindOf, edgeOfBody, edgeExists, keepsRule, rises, edgeRefusal, withEdge, edgeAt, edge};
+ghost use Rattle.records.specs.Ruled.{ruled};
 
 // The edge kind that a number stands for, with its register.
 fn kind_of(number: u8, register: u8) -> EdgeKind
@@ -26,6 +27,7 @@ fn kind_of(number: u8, register: u8) -> EdgeKind
     }
 }
 
+// The edge that a body stands for.
 fn of_body(body: &[u8]) -> Edge
     ensures { λ r. ⌜ r ≡ edgeOfBody (now (body .entry)) ⌝ }
 {
@@ -78,6 +80,16 @@ fn keeps_rule(registers: u8, from: u8, to: u8, kind: EdgeKind) -> bool
     }
 }
 
+// The same of the edge's own states and kind.
+fn ruled(m: Model, body: &[u8]) -> bool
+    ensures { λ r. ⌜ r ≡ ruled m (now (body .entry)) ⌝ }
+{
+    let from = models::set_of(m, bytes::at(body, 0));
+    let to = models::set_of(m, bytes::at(body, 4));
+    let kind = kind_of(bytes::at(body, 2), bytes::at(body, 3));
+    keeps_rule(m.registers, from, to, kind)
+}
+
 // It is above the last edge of the model.
 fn rises(m: Model, body: &[u8]) -> bool
     ensures { λ r. ⌜ r ≡ rises m (now (body .entry)) ⌝ }
@@ -96,10 +108,7 @@ fn refusal(m: Model, body: &[u8]) -> u8
     if !exists(m, body) {
         return 6;
     }
-    let from = models::set_of(m, bytes::at(body, 0));
-    let to = models::set_of(m, bytes::at(body, 4));
-    let kind = kind_of(bytes::at(body, 2), bytes::at(body, 3));
-    if !keeps_rule(m.registers, from, to, kind) {
+    if !ruled(m, body) {
         return 7;
     }
     if !rises(m, body) {
@@ -119,6 +128,7 @@ fn with_edge(m: Model, e: Edge) -> Model
     n
 }
 
+// An edge of this side, where one may stand.
 fn step_of(side: Side, p: Progress, body: &[u8]) -> Stepped
     ensures { λ r. ⌜ r ≡ edgeAt side p (now (body .entry)) ⌝ }
 {
@@ -132,6 +142,7 @@ fn step_of(side: Side, p: Progress, body: &[u8]) -> Stepped
     progress::next(Stage::Edges(side), u)
 }
 
+// It stands after the states of its model.
 pub fn step(p: Progress, body: &[u8]) -> Stepped
     ensures { λ r. ⌜ r ≡ edge (p .stage) p (now (body .entry)) ⌝ }
 {

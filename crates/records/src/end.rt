@@ -13,6 +13,7 @@ fn step_of(p: Progress) -> Stepped
     progress::next(Stage::Ended, p.task)
 }
 
+// It stands after the right model and the pairs.
 pub fn step(p: Progress) -> Stepped
     ensures { λ r. ⌜ r ≡ end (p .stage) p ⌝ }
 {

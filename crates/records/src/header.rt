@@ -54,6 +54,7 @@ fn with_header(t: Task, side: Side, m: Model) -> Task
     u
 }
 
+// A header of this side, where one is due.
 fn step_of(side: Side, p: Progress, body: &[u8]) -> Stepped
     ensures { λ r. ⌜ r ≡ headerAt side p (now (body .entry)) ⌝ }
 {
@@ -68,6 +69,7 @@ fn step_of(side: Side, p: Progress, body: &[u8]) -> Stepped
     progress::next(Stage::States(side, 0), t)
 }
 
+// It stands first, or after the left model.
 pub fn step(p: Progress, body: &[u8]) -> Stepped
     ensures { λ r. ⌜ r ≡ header (p .stage) p (now (body .entry)) ⌝ }
 {

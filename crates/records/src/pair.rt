@@ -65,6 +65,7 @@ fn with_pair(t: Task, left: u8, right: u8) -> Task
     u
 }
 
+// A pair, where one may stand.
 fn step_of(p: Progress, body: &[u8]) -> Stepped
     ensures { λ r. ⌜ r ≡ pairAt p (now (body .entry)) ⌝ }
 {
@@ -78,6 +79,7 @@ fn step_of(p: Progress, body: &[u8]) -> Stepped
     progress::next(Stage::Pairs, with_pair(t, left, right))
 }
 
+// It stands after the right model.
 pub fn step(p: Progress, body: &[u8]) -> Stepped
     ensures { λ r. ⌜ r ≡ pair (p .stage) p (now (body .entry)) ⌝ }
 {

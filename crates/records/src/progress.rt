@@ -8,6 +8,7 @@ use task::Stepped;
 ghost use mathlib.Core.Path.{_≡_};
 ghost use Rattle.task.specs.TaskFile.{next, refuse, withModel};
 
+// The record is turned back with this number.
 pub fn refuse(n: u8, p: Progress) -> Stepped
     ensures { λ r. ⌜ r ≡ refuse n p ⌝ }
 {
@@ -17,6 +18,7 @@ pub fn refuse(n: u8, p: Progress) -> Stepped
     }
 }
 
+// The record is taken.
 pub fn next(stage: Stage, task: Task) -> Stepped
     ensures { λ r. ⌜ r ≡ next (record { stage = stage; task = task }) ⌝ }
 {

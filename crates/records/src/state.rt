@@ -56,6 +56,7 @@ fn after(m: Model, side: Side, q: u8) -> Stage
     }
 }
 
+// A state of this side, where this one is due.
 fn step_of(side: Side, due: u8, p: Progress, body: &[u8]) -> Stepped
     requires { ⌜ Due (Stage.States side due) (p .task) ⌝ }
     ensures { λ r. ⌜ r ≡ stateAt side due p (now (body .entry)) ⌝ }
@@ -72,6 +73,7 @@ fn step_of(side: Side, due: u8, p: Progress, body: &[u8]) -> Stepped
     progress::next(after(m, side, due), u)
 }
 
+// It stands where a state is due.
 pub fn step(p: Progress, body: &[u8]) -> Stepped
     requires { ⌜ Due (p .stage) (p .task) ⌝ }
     ensures { λ r. ⌜ r ≡ state (p .stage) p (now (body .entry)) ⌝ }

@@ -1,8 +1,8 @@
 -- `reader::at_end` meets its contract, stage by stage. Assumes nothing.
 use mathlib.Core.Path.{sym, _∙_, ap}
+use borrow.Author.Needs.{needs}
 use Rattle.task.specs.TaskFile.{atEnd}
 use Rattle.reader.proofs.Rest.{unended}
-use borrow.Author.Needs.{needs}
 use Rattle.reader.proofs.at_end.Statement.{statement}
 use Rattle.reader.proofs.at_end.Tie as tie
 

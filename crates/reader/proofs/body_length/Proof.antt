@@ -1,6 +1,6 @@
 -- `reader::body_length` meets its contract, kind by kind. Assumes nothing.
-use Rattle.task.specs.TaskFile.{bodyLength}
 use borrow.Author.Needs.{needs}
+use Rattle.task.specs.TaskFile.{bodyLength}
 use Rattle.reader.proofs.body_length.Statement.{statement}
 use Rattle.reader.proofs.body_length.Tie as tie
 

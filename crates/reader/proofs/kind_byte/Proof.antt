@@ -1,7 +1,6 @@
 -- `reader::kind_byte` meets its contract, byte by byte. Assumes nothing.
-use mathlib.Core.Path.{_≡_}
-use Rattle.reader.proofs.Rest.{no-kind}
 use Rattle.task.specs.TaskFile.{recordKind}
+use Rattle.reader.proofs.Rest.{no-kind}
 use Rattle.reader.proofs.kind_byte.Statement.{statement}
 use Rattle.reader.proofs.kind_byte.Tie as tie
 

@@ -1,5 +1,5 @@
--- `reader::read_task` meets its contract. The loop's invariant: the file is read as far as `at`, so that what is left of it decides
--- the answer. The measure is what is left of the file. Assumes nothing.
+-- `reader::read_task` meets its contract. The loop's invariant: the file is read as far as `at`, so that what is left of
+-- it decides the answer. The measure is what is left of the file. Assumes nothing.
 use Prim.Native.Nat.{ℕ, _+_, _-_}
 use mathlib.Core.Path.{_≡_, sym, _∙_, ap, subst}
 use mathlib.Core.List.{List}
@@ -39,7 +39,8 @@ returns c =
     let head = c .before .before .before in
     let here = head .before .before .before in
     c .refused .ensures
-    ∙ unknown (fileOf here) (here .loop .p) (here .loop .at) (here .loop .inv) (head .before .before .loop-test .taken)
+    ∙ unknown (fileOf here) (here .loop .p) (here .loop .at) (here .loop .inv)
+    (head .before .before .loop-test .taken)
     (head .kind-byte .ensures ∙ ap announced (c .before .enum-told .given .1))
 
 returns-2 : tie.Need-returns-2 Inv-loop μ-loop
@@ -48,7 +49,8 @@ returns-2 c =
     let kind = sized .before .before in
     let here = kind .before .before .before .before .before in
     c .refused2 .ensures
-    ∙ cut (fileOf here) (here .loop .p) (here .loop .at) (here .loop .inv) (kind .before .before .before .before .loop-test .taken)
+    ∙ cut (fileOf here) (here .loop .p) (here .loop .at) (here .loop .inv)
+    (kind .before .before .before .before .loop-test .taken)
     (known kind) (sized .body-length .ensures) (c .before .if1 .taken)
 
 step-requires : tie.Need-step-requires Inv-loop μ-loop
@@ -69,7 +71,8 @@ stepped c =
     let size = sized .body-length .result in
     let whole : here .loop .at + 1 + size - (here .loop .at + 1) ≡ size = omega arith in
     c .step .ensures
-    ∙ ap (λ n. step (defined (kind .kind .given .0 .0)) (here .loop .p) (take n (drop (here .loop .at + 1) (fileOf here)))) whole
+    ∙ ap (λ n. step (defined (kind .kind .given .0 .0)) (here .loop .p) (take n (drop (here .loop .at + 1) (fileOf here))))
+    whole
 
 returns-3 : tie.Need-returns-3 Inv-loop μ-loop
 returns-3 c =
@@ -78,8 +81,10 @@ returns-3 c =
     let kind = sized .before .before in
     let here = kind .before .before .before .before .before in
     c .refused3 .ensures
-    ∙ turned-back (fileOf here) (here .loop .p) (here .loop .at) (here .loop .inv) (kind .before .before .before .before .loop-test .taken)
-    (known kind) (sized .body-length .ensures) (called .before .before .if1 .left) (stepped called) (c .before .if2 .taken)
+    ∙ turned-back (fileOf here) (here .loop .p) (here .loop .at) (here .loop .inv)
+    (kind .before .before .before .before .loop-test .taken)
+    (known kind) (sized .body-length .ensures) (called .before .before .if1 .left)
+    (stepped called) (c .before .if2 .taken)
 
 loop-again : tie.Need-loop-again Inv-loop μ-loop
 loop-again c =
@@ -87,8 +92,10 @@ loop-again c =
     let sized = called .before .before .before in
     let kind = sized .before .before in
     let here = kind .before .before .before .before .before in
-    goes-on (fileOf here) (here .loop .p) (here .loop .at) (here .loop .inv) (kind .before .before .before .before .loop-test .taken)
-    (known kind) (sized .body-length .ensures) (called .before .before .if1 .left) (stepped called) (c .before .if2 .left)
+    goes-on (fileOf here) (here .loop .p) (here .loop .at) (here .loop .inv)
+    (kind .before .before .before .before .loop-test .taken)
+    (known kind) (sized .body-length .ensures) (called .before .before .if1 .left)
+    (stepped called) (c .before .if2 .left)
 
 returns-4 : tie.Need-returns-4 Inv-loop μ-loop
 returns-4 c =

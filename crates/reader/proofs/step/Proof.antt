@@ -1,8 +1,8 @@
 -- `reader::step` meets its contract, kind by kind. Assumes nothing.
 use mathlib.Core.Path.{sym, _∙_, ap}
+use borrow.Author.Needs.{needs}
 use Rattle.task.specs.TaskFile.{step}
 use Rattle.reader.specs.Kinds.{defined}
-use borrow.Author.Needs.{needs}
 use Rattle.reader.proofs.step.Statement.{statement}
 use Rattle.reader.proofs.step.Tie as tie
 

@@ -1,7 +1,7 @@
 -- `lookup::bytes::at` meets its contract: past the end there is nothing but the 0. Assumes nothing.
 use mathlib.Core.Path.{sym}
-use borrow.Author.Needs.{needs}
 use lib.ListN.{List·getD-eq-default}
+use borrow.Author.Needs.{needs}
 use Rattle.lookup.proofs.bytes.at.Statement.{statement}
 use Rattle.lookup.proofs.bytes.at.Tie as tie
 

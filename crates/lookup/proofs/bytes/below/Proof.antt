@@ -1,5 +1,5 @@
--- `lookup::bytes::below` meets its contract. The loop's invariant: the order is that of what both strings have from `i` on. The
--- measure is what is left of the first. Assumes nothing.
+-- `lookup::bytes::below` meets its contract. The loop's invariant: the order is that of what both strings have from `i`
+-- on. The measure is what is left of the first. Assumes nothing.
 use Prim.Native.Nat.{_≤_, _-_}
 use mathlib.Core.Path.{_≡_, refl, sym, _∙_}
 use native.Mathlib.Omega.{arith}
@@ -35,7 +35,9 @@ returns-2 : tie.Need-returns-2 Inv-loop μ-loop
 returns-2 c =
     let here = c .before .before .before .before .before in
     let a = here .before .args in
-    sym (here .loop .inv .1 ∙ below-here (a .a .now) (a .b .now) (here .loop .i) (omega arith) (omega arith) (c .if2 .taken))
+    sym
+    (here .loop .inv .1
+    ∙ below-here (a .a .now) (a .b .now) (here .loop .i) (omega arith) (omega arith) (c .if2 .taken))
 
 add-i : tie.Need-add-i Inv-loop μ-loop
 add-i c = omega arith
@@ -47,7 +49,8 @@ loop-again : tie.Need-loop-again Inv-loop μ-loop
 loop-again c =
     let here = c .before .before .before .before .before in
     let a = here .before .args in
-    (omega arith, here .loop .inv .1 ∙ below-later (a .a .now) (a .b .now) (here .loop .i) (omega arith) (omega arith) (c .if2 .left))
+    let later = below-later (a .a .now) (a .b .now) (here .loop .i) (omega arith) (omega arith) (c .if2 .left) in
+    (omega arith, here .loop .inv .1 ∙ later)
 
 returns-3 : tie.Need-returns-3 Inv-loop μ-loop
 returns-3 c =

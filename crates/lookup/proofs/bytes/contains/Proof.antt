@@ -1,9 +1,9 @@
--- `lookup::bytes::contains` meets its contract. The loop's invariant: the byte stands in the string if it stands there from `i`
--- on. The measure is what is left of the string. Assumes nothing.
+-- `lookup::bytes::contains` meets its contract. The loop's invariant: the byte stands in the string if it stands there
+-- from `i` on. The measure is what is left of the string. Assumes nothing.
 use Prim.Native.Nat.{_≤_, _-_}
 use mathlib.Core.Path.{_≡_, refl, sym, _∙_}
 use native.Mathlib.Omega.{arith}
-use lib.ListN.{length, drop, getD}
+use lib.ListN.{length, drop}
 use lib.Dec.{eqb}
 use borrow.Author.Needs.{needs}
 use borrow.Author.Tests.{eq-eqb, ne-eqb}
@@ -28,7 +28,8 @@ returns : tie.Need-returns Inv-loop μ-loop
 returns c =
     let here = c .before .before .before in
     let a = here .before .args in
-    sym (here .loop .inv .1 ∙ any-here (eqb (a .byte)) (a .s .now) 0 (here .loop .i) (omega arith) (eq-eqb _ _ (sym (c .if1 .taken))))
+    let found = eq-eqb _ _ (sym (c .if1 .taken)) in
+    sym (here .loop .inv .1 ∙ any-here (eqb (a .byte)) (a .s .now) 0 (here .loop .i) (omega arith) found)
 
 add-i : tie.Need-add-i Inv-loop μ-loop
 add-i c = omega arith
@@ -40,7 +41,8 @@ loop-again : tie.Need-loop-again Inv-loop μ-loop
 loop-again c =
     let here = c .before .before .before in
     let a = here .before .args in
-    (omega arith, here .loop .inv .1 ∙ any-later (eqb (a .byte)) (a .s .now) 0 (here .loop .i) (omega arith) (ne-eqb _ _ (λ e. c .if1 .left (sym e))))
+    let other = ne-eqb _ _ (λ e. c .if1 .left (sym e)) in
+    (omega arith, here .loop .inv .1 ∙ any-later (eqb (a .byte)) (a .s .now) 0 (here .loop .i) (omega arith) other)
 
 returns-2 : tie.Need-returns-2 Inv-loop μ-loop
 returns-2 c =

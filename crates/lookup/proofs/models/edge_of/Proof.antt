@@ -1,10 +1,10 @@
 -- `lookup::models::edge_of` meets its contract: past the edges stands what is no edge. Assumes nothing.
-use mathlib.Core.Path.{_≡_, refl, sym, ap}
+use mathlib.Core.Path.{_≡_, refl}
 use native.Mathlib.Omega.{arith}
-use borrow.Author.Needs.{needs}
 use lib.ListN.{length, List·getD-eq-default}
-use Rattle.lookup.proofs.Arrays.{length-of-map}
+use borrow.Author.Needs.{needs}
 use Rattle.fra.specs.Model.{noEdge, edgeOf}
+use Rattle.lookup.proofs.Arrays.{length-of-map}
 use Rattle.lookup.proofs.models.edge_of.Statement.{statement}
 use Rattle.lookup.proofs.models.edge_of.Tie as tie
 

@@ -1,10 +1,10 @@
 -- `lookup::models::set_of` meets its contract: past the states stands the empty set. Assumes nothing.
-use mathlib.Core.Path.{_≡_, refl, sym, ap}
+use mathlib.Core.Path.{_≡_, refl}
 use native.Mathlib.Omega.{arith}
-use borrow.Author.Needs.{needs}
 use lib.ListN.{length, List·getD-eq-default}
-use Rattle.lookup.proofs.Arrays.{length-of-map}
+use borrow.Author.Needs.{needs}
 use Rattle.fra.specs.Model.{noState, setOf}
+use Rattle.lookup.proofs.Arrays.{length-of-map}
 use Rattle.lookup.proofs.models.set_of.Statement.{statement}
 use Rattle.lookup.proofs.models.set_of.Tie as tie
 

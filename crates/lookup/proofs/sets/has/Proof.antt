@@ -1,5 +1,4 @@
 -- `lookup::sets::has` meets its contract: a set of one byte has no register past the eighth. Assumes nothing.
-use Prim.Native.Nat.{zero}
 use mathlib.Core.Path.{sym}
 use native.Mathlib.Omega.{arith}
 use borrow.Author.Needs.{needs}

@@ -1,5 +1,5 @@
--- `lookup::sets::inside` meets its contract. The loop's invariant: the answer is that of the registers from `i` on. The measure
--- is how many they are. Assumes nothing.
+-- `lookup::sets::inside` meets its contract. The loop's invariant: the answer is that of the registers from `i` on. The
+-- measure is how many they are. Assumes nothing.
 use Prim.Native.Nat.{suc, _+_, _-_}
 use mathlib.Core.Path.{_≡_, sym, _∙_}
 use native.Mathlib.Omega.{arith}
@@ -11,7 +11,8 @@ use Rattle.lookup.proofs.sets.inside.Statement.{statement}
 use Rattle.lookup.proofs.sets.inside.Tie as tie
 
 abbrev Inv-loop : tie.InvT-loop
-Inv-loop registers set other added i₀ i = inside registers set (with other added) ≡ upTo i registers (stays set other added)
+Inv-loop registers set other added i₀ i =
+    inside registers set (with other added) ≡ upTo i registers (stays set other added)
 
 abbrev μ-loop : tie.MeasureT-loop
 μ-loop registers set other added i₀ i = suc registers - i
@@ -42,7 +43,8 @@ loop-less c = omega arith
 passed : (c : tie.Else1 Inv-loop μ-loop) →
     let here = c .before .before .before in
     let a = here .before .args in
-    inside (a .registers) (a .set) (with (a .other) (a .added)) ≡ upTo (here .loop .i + 1) (a .registers) (stays (a .set) (a .other) (a .added))
+    inside (a .registers) (a .set) (with (a .other) (a .added))
+    ≡ upTo (here .loop .i + 1) (a .registers) (stays (a .set) (a .other) (a .added))
 passed c =
     let here = c .before .before .before in
     let a = here .before .args in
@@ -55,8 +57,9 @@ loop-again c = passed (c .before)
 
 returns-2 : tie.Need-returns-2 Inv-loop μ-loop
 returns-2 c =
-    let a = c .before .before .args in
-    sym (c .before .loop .inv ∙ all-end (stays (a .set) (a .other) (a .added)) (c .before .loop .i) (a .registers) (omega arith))
+    let here = c .before in
+    let a = here .before .args in
+    sym (here .loop .inv ∙ all-end (stays (a .set) (a .other) (a .added)) (here .loop .i) (a .registers) (omega arith))
 
 returns-3 : tie.Need-returns-3 Inv-loop μ-loop
 returns-3 c =

@@ -12,7 +12,9 @@ has-requires c κs = search needs
 returns : tie.Need-returns
 returns c =
     let a = c .before .before .args in
-    sym (stays-outside (a .set) (a .other) (a .added) (a .register) (sym (c .before .has .ensures) ∙ not-true _ (c .if1 .taken)))
+    sym
+    (stays-outside (a .set) (a .other) (a .added) (a .register)
+    (sym (c .before .has .ensures) ∙ not-true _ (c .if1 .taken)))
 
 has-requires-2 : tie.Need-has-requires-2
 has-requires-2 c κs = search needs

@@ -1,6 +1,6 @@
 -- `records::edge::bytes_of` meets its contract, kind by kind. Assumes nothing.
-use Rattle.fra.specs.Model.{edgeBytes}
 use borrow.Author.Needs.{needs}
+use Rattle.fra.specs.Model.{edgeBytes}
 use Rattle.records.proofs.edge.bytes_of.Statement.{statement}
 use Rattle.records.proofs.edge.bytes_of.Tie as tie
 

@@ -36,7 +36,8 @@ module _ (c : tie.After-at5) where
 second : (c : tie.Joined1) → let b = c .before .before in
     c .if1 .if2 ≡ (ltb (from b) (model b .«state_count») && ltb (tag b) 32)
 second c =
-    ⊎-elim (λ w. and-next (lt-ltb _ _ (w .0 .taken)) (w .1)) (λ w. and-over _ (le-ltb _ _ (w .0 .left)) (w .1)) (c .if1 .came)
+    ⊎-elim (λ w. and-next (lt-ltb _ _ (w .0 .taken)) (w .1)) (λ w. and-over _ (le-ltb _ _ (w .0 .left)) (w .1))
+    (c .if1 .came)
 
 third : (c : tie.Joined2) → let b = c .before .before .before in
     c .if2 .if3 ≡ (ltb (from b) (model b .«state_count») && ltb (tag b) 32 && leb (kind b) 2)
@@ -52,7 +53,11 @@ fourth c =
 
 fifth : (c : tie.Joined4) → let b = c .before .before .before .before .before in
     c .if4 .if5
-    ≡ (ltb (from b) (model b .«state_count») && ltb (tag b) 32 && leb (kind b) 2 && leb 1 (register b) && leb (register b) (model b .registers))
+    ≡ (ltb (from b) (model b .«state_count»)
+    && ltb (tag b) 32
+    && leb (kind b) 2
+    && leb 1 (register b)
+    && leb (register b) (model b .registers))
 fifth c =
     rw (← fourth (c .before))
     (⊎-elim (λ w. and-next (w .0 .taken) (w .2)) (λ w. and-over _ (w .0 .left) (w .1)) (c .if4 .came))

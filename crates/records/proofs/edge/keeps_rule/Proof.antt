@@ -1,8 +1,8 @@
 -- `records::edge::keeps_rule` meets its contract, kind by kind. Assumes nothing.
-use mathlib.Core.Path.{_≡_, sym, _∙_, ap}
+use mathlib.Core.Path.{sym, _∙_, ap}
+use borrow.Author.Needs.{needs}
 use Rattle.task.specs.TaskFile.{keepsRule}
 use Rattle.records.proofs.Rules.{known-inside, known-outside}
-use borrow.Author.Needs.{needs}
 use Rattle.records.proofs.edge.keeps_rule.Statement.{statement}
 use Rattle.records.proofs.edge.keeps_rule.Tie as tie
 

@@ -1,7 +1,7 @@
 -- `records::edge::rises` meets its contract. Assumes nothing.
-use mathlib.Core.Path.{_≡_, sym, _∙_}
-use Rattle.records.proofs.Rules.{rises-first, rises-later}
+use mathlib.Core.Path.{sym, _∙_}
 use borrow.Author.Needs.{needs}
+use Rattle.records.proofs.Rules.{rises-first, rises-later}
 use Rattle.records.proofs.edge.rises.Statement.{statement}
 use Rattle.records.proofs.edge.rises.Tie as tie
 
@@ -19,7 +19,8 @@ returns-2 c =
     let called = c .before .before in
     let a = called .before .before .before .before .args in
     c .below .ensures
-    ∙ rises-later (a .m) (a .body .now) (called .before .before .if1 .left) (called .before .edge-of .ensures) (called .bytes-of .ensures)
+    ∙ rises-later (a .m) (a .body .now) (called .before .before .if1 .left)
+    (called .before .edge-of .ensures) (called .bytes-of .ensures)
 
 pub rises-spec : {M : Type 1} → statement M
 rises-spec =

@@ -1,8 +1,8 @@
 -- `records::edge::step` meets its contract, stage by stage. Assumes nothing.
 use mathlib.Core.Path.{sym, _∙_, ap}
+use borrow.Author.Needs.{needs}
 use Rattle.task.specs.TaskFile.{edge}
 use Rattle.records.proofs.Places.{edge-elsewhere}
-use borrow.Author.Needs.{needs}
 use Rattle.records.proofs.edge.step.Statement.{statement}
 use Rattle.records.proofs.edge.step.Tie as tie
 

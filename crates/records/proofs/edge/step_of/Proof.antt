@@ -25,7 +25,9 @@ returns-2 c =
     c .next .ensures
     ∙ edge-taken (a .side) (a .p) (a .body .now) (call .before .model-of .ensures)
     (call .refusal .ensures) (c .before .before .before .before .if1 .left)
-    (c .before .before .before .of-body .ensures) (c .before .before .with-edge .ensures) (c .before .with-model .ensures)
+    (c .before .before .before .of-body .ensures)
+    (c .before .before .with-edge .ensures)
+    (c .before .with-model .ensures)
 
 pub step-of-spec : {M : Type 1} → statement M
 step-of-spec =

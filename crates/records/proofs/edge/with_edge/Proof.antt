@@ -1,7 +1,7 @@
 -- `records::edge::with_edge` meets its contract. Assumes nothing.
 use mathlib.Core.Path.{refl}
-use Rattle.task.specs.TaskFile.{withEdge}
 use borrow.Author.Needs.{needs}
+use Rattle.task.specs.TaskFile.{withEdge}
 use Rattle.records.proofs.edge.with_edge.Statement.{statement}
 use Rattle.records.proofs.edge.with_edge.Tie as tie
 

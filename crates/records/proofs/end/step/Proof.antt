@@ -1,9 +1,9 @@
 -- `records::end::step` meets its contract, stage by stage. Assumes nothing.
 use mathlib.Core.Path.{sym, _∙_, ap}
 use borrow.Author.Needs.{needs}
-use Rattle.records.proofs.Places.{end-elsewhere}
 use Rattle.task.specs.declared.Stage.the-variants.{Edges}
 use Rattle.task.specs.TaskFile.{end}
+use Rattle.records.proofs.Places.{end-elsewhere}
 use Rattle.records.proofs.end.step.Statement.{statement}
 use Rattle.records.proofs.end.step.Tie as tie
 
@@ -31,7 +31,9 @@ returns-3 c =
 
 returns-4 : tie.Need-returns-4
 unfolding end
-returns-4 c = let p = c .before .before .args .p in c .refuse2 .ensures ∙ sym (end-elsewhere p (p .stage) (c .before .match .keys3))
+returns-4 c =
+    let p = c .before .before .args .p in
+    c .refuse2 .ensures ∙ sym (end-elsewhere p (p .stage) (c .before .match .keys3))
 
 pub step-spec : {M : Type 1} → statement M
 step-spec =

@@ -13,7 +13,8 @@ use Rattle.records.proofs.header.refusal.Tie as tie
 second : (c : tie.Joined1) → let a = c .before .args in
     c .if1 .if2 ≡ (ltb 6 (a .registers) || eqb (a .states) 0)
 second c =
-    ⊎-elim (λ w. or-over _ (lt-ltb _ _ (w .0 .taken)) (w .1)) (λ w. or-next (le-ltb _ _ (w .0 .left)) (w .1)) (c .if1 .came)
+    ⊎-elim (λ w. or-over _ (lt-ltb _ _ (w .0 .taken)) (w .1)) (λ w. or-next (le-ltb _ _ (w .0 .left)) (w .1))
+    (c .if1 .came)
 
 third : (c : tie.Joined2) → let a = c .before .before .args in
     c .if2 .if3 ≡ (ltb 6 (a .registers) || eqb (a .states) 0 || ltb 16 (a .states))

@@ -1,9 +1,9 @@
 -- `records::header::step` meets its contract, stage by stage. Assumes nothing.
 use mathlib.Core.Path.{sym, _∙_, ap}
+use borrow.Author.Needs.{needs}
 use Rattle.task.specs.declared.Stage.the-variants.{Edges}
 use Rattle.task.specs.TaskFile.{header}
 use Rattle.records.proofs.Places.{header-elsewhere}
-use borrow.Author.Needs.{needs}
 use Rattle.records.proofs.header.step.Statement.{statement}
 use Rattle.records.proofs.header.step.Tie as tie
 

@@ -21,7 +21,8 @@ returns-2 c =
     c .next .ensures
     ∙ header-taken (a .side) (a .p) (a .body .now)
     (read .before .before .at .ensures) (read .before .at2 .ensures) (read .at3 .ensures)
-    (call .refusal .ensures) (c .before .before .before .if1 .left) (c .before .before .headed .ensures) (c .before .with-header .ensures)
+    (call .refusal .ensures) (c .before .before .before .if1 .left)
+    (c .before .before .headed .ensures) (c .before .with-header .ensures)
 
 pub step-of-spec : {M : Type 1} → statement M
 step-of-spec =

@@ -1,6 +1,6 @@
 -- `records::header::with_header` meets its contract, side by side. Assumes nothing.
-use Rattle.task.specs.TaskFile.{withHeader}
 use borrow.Author.Needs.{needs}
+use Rattle.task.specs.TaskFile.{withHeader}
 use Rattle.records.proofs.header.with_header.Statement.{statement}
 use Rattle.records.proofs.header.with_header.Tie as tie
 

@@ -1,9 +1,10 @@
 -- `records::pair::refusal` meets its contract, test by test. Assumes nothing.
-use mathlib.Core.Path.{_≡_, sym, _∙_}
+use mathlib.Core.Path.{sym, _∙_}
 use mathlib.Core.Logic.{⊎-elim, inl, inr}
 use borrow.Author.Tests.{not-true, not-false}
-use Rattle.records.proofs.Rules.{has-positive, pair-0, pair-10}
 use borrow.Author.Needs.{needs}
+use Rattle.lookup.proofs.Registers.{has-positive}
+use Rattle.records.proofs.Rules.{pair-0, pair-10}
 use Rattle.records.proofs.pair.refusal.Statement.{statement}
 use Rattle.records.proofs.pair.refusal.Tie as tie
 

@@ -1,15 +1,15 @@
--- `records::pair::rising` meets its contract. The loop's invariant: the answer is that of the places from `i` on. The measure is
--- how many they are. Assumes nothing.
+-- `records::pair::rising` meets its contract. The loop's invariant: the answer is that of the places from `i` on. The
+-- measure is how many they are. Assumes nothing.
 use Prim.Native.Nat.{ℕ, _-_}
 use mathlib.Core.Path.{_≡_, refl, sym, _∙_, ap}
 use mathlib.Core.Bool.{true, false, not}
 use native.Mathlib.Omega.{arith}
-use lib.ListN.{length, drop}
+use lib.ListN.{drop}
 use lib.Dec.{ltb}
 use borrow.Author.Tests.{lt-ltb, le-ltb}
 use Rattle.fra.specs.Lists.{any}
-use Rattle.lookup.proofs.Strings.{any-here, any-later, any-end}
 use Rattle.task.specs.TaskFile.{rising}
+use Rattle.lookup.proofs.Strings.{any-here, any-later, any-end}
 use Rattle.records.proofs.pair.rising.Statement.{statement}
 use Rattle.records.proofs.pair.rising.Tie as tie
 

@@ -1,9 +1,9 @@
 -- `records::pair::step` meets its contract, stage by stage. Assumes nothing.
 use mathlib.Core.Path.{sym, _∙_, ap}
+use borrow.Author.Needs.{needs}
 use Rattle.task.specs.declared.Stage.the-variants.{Edges}
 use Rattle.task.specs.TaskFile.{pair}
 use Rattle.records.proofs.Places.{pair-elsewhere}
-use borrow.Author.Needs.{needs}
 use Rattle.records.proofs.pair.step.Statement.{statement}
 use Rattle.records.proofs.pair.step.Tie as tie
 

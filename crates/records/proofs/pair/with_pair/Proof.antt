@@ -1,13 +1,13 @@
 -- `records::pair::with_pair` meets its contract: a store past the end changes nothing. Assumes nothing.
 use Prim.Native.Nat.{_-_}
-use mathlib.Core.Path.{_≡_, refl, sym, _∙_, ap}
+use mathlib.Core.Path.{_≡_}
 use mathlib.Core.Logic.{⊎-elim}
 use native.Mathlib.Omega.{arith}
-use lib.ListN.{length, set}
+use lib.ListN.{length}
 use lib.Seq.{set-out}
-use Rattle.lookup.proofs.Arrays.{length-of-map}
-use Rattle.task.specs.TaskFile.{withPair}
 use borrow.Author.Needs.{needs}
+use Rattle.task.specs.TaskFile.{withPair}
+use Rattle.lookup.proofs.Arrays.{length-of-map}
 use Rattle.records.proofs.pair.with_pair.Statement.{statement}
 use Rattle.records.proofs.pair.with_pair.Tie as tie
 
@@ -25,7 +25,9 @@ unfolding withPair
 returns c =
     let a = c .before .before .args in
     let long : length (a .t .start .partners) ≡ 6 = search (needs, length-of-map) in
-    ⊎-elim (λ w. rw (w .1)) (λ w. rw (w .1, set-out (a .t .start .partners) (a .left - 1) (a .right) (omega arith))) (c .if1 .came)
+    ⊎-elim (λ w. rw (w .1))
+    (λ w. rw (w .1, set-out (a .t .start .partners) (a .left - 1) (a .right) (omega arith)))
+    (c .if1 .came)
 
 pub with-pair-spec : {M : Type 1} → statement M
 with-pair-spec = tie.close (tie.spec sub-start cast-start element-write-start returns)

@@ -1,7 +1,5 @@
 -- `records::progress::with_model` meets its contract, side by side. Assumes nothing.
-use mathlib.Core.Path.{sym, ap}
 use borrow.Author.Needs.{needs}
-use Rattle.task.specs.TaskFile.{withModel}
 use Rattle.records.proofs.progress.with_model.Statement.{statement}
 use Rattle.records.proofs.progress.with_model.Tie as tie
 

@@ -1,7 +1,7 @@
 -- `records::state::after` meets its contract. Assumes nothing.
 use borrow.Author.Tests.{eq-eqb, ne-eqb}
-use Rattle.task.specs.TaskFile.{afterState}
 use borrow.Author.Needs.{needs}
+use Rattle.task.specs.TaskFile.{afterState}
 use Rattle.records.proofs.state.after.Statement.{statement}
 use Rattle.records.proofs.state.after.Tie as tie
 

@@ -1,8 +1,8 @@
 -- `records::state::overruns` meets its contract: a byte has no bit past the eighth. Assumes nothing.
 use mathlib.Core.Path.{sym}
 use native.Mathlib.Omega.{arith}
-use Rattle.records.proofs.Rules.{overrun, no-overrun}
 use borrow.Author.Needs.{needs}
+use Rattle.lookup.proofs.Registers.{overrun, no-overrun}
 use Rattle.records.proofs.state.overruns.Statement.{statement}
 use Rattle.records.proofs.state.overruns.Tie as tie
 

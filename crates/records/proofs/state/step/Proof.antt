@@ -1,9 +1,9 @@
 -- `records::state::step` meets its contract, stage by stage. Assumes nothing.
 use mathlib.Core.Path.{sym, _∙_, ap, subst}
-use Rattle.records.specs.Due.{Due}
-use Rattle.task.specs.TaskFile.{state}
-use Rattle.records.proofs.Places.{state-elsewhere}
 use borrow.Author.Needs.{needs}
+use Rattle.task.specs.TaskFile.{state}
+use Rattle.records.specs.Due.{Due}
+use Rattle.records.proofs.Places.{state-elsewhere}
 use Rattle.records.proofs.state.step.Statement.{statement}
 use Rattle.records.proofs.state.step.Tie as tie
 

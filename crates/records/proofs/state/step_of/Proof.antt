@@ -1,7 +1,7 @@
 -- `records::state::step_of` meets its contract. Assumes nothing.
 use mathlib.Core.Path.{_∙_}
-use Rattle.records.proofs.Steps.{state-refused, state-taken}
 use borrow.Author.Needs.{needs}
+use Rattle.records.proofs.Steps.{state-refused, state-taken}
 use Rattle.records.proofs.state.step_of.Statement.{statement}
 use Rattle.records.proofs.state.step_of.Tie as tie
 
@@ -35,7 +35,9 @@ returns-2 c =
     (read .at3 .ensures) (read .before .before .at .ensures) (read .before .at2 .ensures)
     (read .before .before .before .model-of .ensures) (a .due)
     (call .refusal .ensures) (c .before .before .before .before .if1 .left)
-    (c .before .before .before .with-state .ensures) (c .before .before .with-model .ensures) (c .before .after .ensures)
+    (c .before .before .before .with-state .ensures)
+    (c .before .before .with-model .ensures)
+    (c .before .after .ensures)
 
 pub step-of-spec : {M : Type 1} → statement M
 step-of-spec =

@@ -1,7 +1,7 @@
 -- `records::state::with_state` meets its contract. Assumes nothing.
 use mathlib.Core.Path.{refl}
-use Rattle.task.specs.TaskFile.{withState}
 use borrow.Author.Needs.{needs}
+use Rattle.task.specs.TaskFile.{withState}
 use Rattle.records.proofs.state.with_state.Statement.{statement}
 use Rattle.records.proofs.state.with_state.Tie as tie
 

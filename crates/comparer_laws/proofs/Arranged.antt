@@ -1,0 +1,64 @@
+-- From the positions found to the table that is ranked: their keys, sorted, are the keys of the positions reached in order, and
+-- laid out they are the rows of those positions. Assumes nothing.
+use Prim.Native.Nat.{ℕ, _≤_}
+use mathlib.Core.Path.{_≡_, refl, sym, _∙_, ap, ap₂}
+use mathlib.Core.Bool.{true}
+use mathlib.Core.List.{List, [], _∷_, _++_, map, flatMap, List·Memᴰ·head, List·Memᴰ·tail, Memᴰ·of-map}
+use native.Mathlib.Omega.{arith}
+use lib.ListN.{length}
+use Rattle.fra.specs.Lists.{_∈_}
+use Rattle.fra.specs.Rules.{Rules}
+use Rattle.fra.specs.Position.{legal, Rising}
+use Rattle.fra.specs.Reach.{reached}
+use Rattle.fra.specs.Valid.{Valid}
+use Rattle.fra.specs.declared.Position.{Position}
+use Rattle.fra.specs.declared.Task.{Task}
+use Rattle.fra_laws.proofs.Legal.{legal-facts}
+use Rattle.fra_laws.proofs.Reached.{reached-rising, reached-legal}
+use Rattle.outcome.specs.Bytes.{allOnes}
+use Rattle.table_laws.specs.Keys.{keyOf, positionFrom, Small}
+use Rattle.table_laws.specs.Sorted.{sorted, Ascending, Permuted}
+use Rattle.table_laws.specs.Table.{row, laidOut}
+use Rattle.table_laws.proofs.Keys.{position-of-key, key-rises, legal-small}
+use Rattle.table_laws.proofs.Sorted.{ascending-sorted}
+
+-- positions of six registers that fit a key
+abbrev Packed : List Position → Type 0
+Packed l = (p : Position) → p ∈ l → Small p × (length (p .partners) ≡ 6)
+
+keys-ascend : (l : List Position) → Packed l → Rising l → Ascending (map keyOf l)
+keys-ascend [] packed rises = tt
+keys-ascend (p ∷ l) packed (above, rest) = (
+  λ k m.
+      let (q, i, e) = Memᴰ·of-map keyOf l m in
+      let (s, n) = packed p (List·Memᴰ·head refl) in
+      let (s′, n′) = packed q (List·Memᴰ·tail i) in
+      let h = key-rises p q (n ∙ sym n′) s s′ (above q i) in
+      omega arith,
+  keys-ascend l (λ q m. packed q (List·Memᴰ·tail m)) rest,
+)
+
+keys-laid-out : (l : List Position) → Packed l → laidOut (map keyOf l) ≡ flatMap (λ p. row p allOnes) l
+unfolding laidOut flatMap
+keys-laid-out [] packed = refl
+keys-laid-out (p ∷ l) packed =
+    let (s, n) = packed p (List·Memᴰ·head refl) in
+    let same : positionFrom (keyOf p) ≡ p = rw n at (position-of-key p s) in
+    ap₂ (λ (q : Position) (m : List ℕ). row q allOnes ++ m) same (keys-laid-out l (λ q m. packed q (List·Memᴰ·tail m)))
+
+module _ {t : Task} (valid : Valid 6 t) (left : t .left .«state_count» ≤ 16) (right : t .right .«state_count» ≤ 16) (g : Rules) where
+  packed : Packed (reached g t)
+  packed p m =
+      let h = reached-legal valid g p m in
+      (legal-small 6 t p valid (omega arith) left right h, legal-facts 6 t p h .long)
+
+  -- ── The positions found, arranged ──
+
+  pub sorted-keys : (ks : List ℕ) → Permuted ks (map keyOf (reached g t)) → sorted ks ≡ map keyOf (reached g t)
+  sorted-keys ks p =
+      sym
+      (ascending-sorted (map keyOf (reached g t)) ks (keys-ascend (reached g t) packed (reached-rising valid g))
+      (λ x. sym (p x)))
+
+  pub laid-out-rows : laidOut (map keyOf (reached g t)) ≡ flatMap (λ p. row p allOnes) (reached g t)
+  laid-out-rows = keys-laid-out (reached g t) packed

@@ -1,0 +1,98 @@
+-- `explore::expand::visit_fan` meets its contract. The loop's invariant: the keys wanted at the places passed are held.
+-- Assumes nothing.
+use Prim.Native.Nat.{ℕ, _≤_, _-_}
+use mathlib.Core.Path.{_≡_, _∙_}
+use mathlib.Core.List.{List}
+use native.Mathlib.Numerals.{add-one}
+use native.Mathlib.Omega.{arith}
+use borrow.Author.Needs.{needs}
+use Rattle.fra.specs.declared.Position.{Position}
+use Rattle.replies.specs.Fan.{candidateAt}
+use Rattle.replies.specs.declared.fan.Candidate.{Candidate}
+use Rattle.explore_laws.specs.Growth.{Completes, Before}
+use Rattle.explore_laws.specs.Pairs.{PairKey}
+use Rattle.explore_laws.proofs.Growth.{completes-first, completes-next, overflows-next}
+use Rattle.explore.proofs.expand.visit_fan.Statement.{statement}
+use Rattle.explore.proofs.expand.visit_fan.Tie as tie
+
+-- what is wanted at a place
+abbrev wanted : Position → Candidate → List ℕ → ℕ → ℕ → Type 0
+wanted p left right i = PairKey p left (candidateAt right i)
+
+abbrev Inv-loop : tie.InvT-loop
+Inv-loop table₀ n p left right count m₀ i₀ table m i = (i ≤ count) × Completes (Before i (wanted p left right)) n table₀ m table
+
+abbrev μ-loop : tie.MeasureT-loop
+μ-loop table₀ n p left right count m₀ i₀ table m i = count - i
+
+loop-holds : tie.Need-loop-holds Inv-loop μ-loop
+loop-holds c =
+    let a = c .before .args in
+    (omega arith, completes-first (wanted (a .p) (a .left) (a .right .now)) (c .before .pre))
+
+candidate-at-requires : tie.Need-candidate-at-requires Inv-loop μ-loop
+candidate-at-requires c κs = search needs
+
+visit-pair-requires : tie.Need-visit-pair-requires Inv-loop μ-loop
+visit-pair-requires c κs = c .before .before .before .loop .inv .1 .grows .stored
+
+enum-known-more : tie.Need-enum-known-more Inv-loop μ-loop
+enum-known-more c = search needs
+
+enum-told : tie.Need-enum-told Inv-loop μ-loop
+enum-told c = search needs
+
+same-length : tie.Need-same-length Inv-loop μ-loop
+same-length c =
+    c .before .before .before .before .visit-pair .kept .0
+    ∙ c .before .before .before .before .before .before .before .before .loop .inv .1 .grows .long
+
+returns : tie.Need-returns Inv-loop μ-loop
+returns c =
+    let turn = c .before .before .before .before .before .before .before .before .loop in
+    let a = c .before .before .before .before .before .before .before .before .before .before .args in
+    overflows-next (wanted (a .p) (a .left) (a .right .now)) (c .before .before .before .before .before .before .before .loop-test .taken) (turn .inv .1)
+    (rw (c .enum-told .given .1, c .before .before .before .before .before .candidate-at .ensures) at (c .before .before .before .before .visit-pair .ensures))
+
+add-i : tie.Need-add-i Inv-loop μ-loop
+add-i c = omega arith
+
+loop-less : tie.Need-loop-less Inv-loop μ-loop
+loop-less c = omega arith
+
+loop-again : tie.Need-loop-again Inv-loop μ-loop
+loop-again c =
+    let turn = c .before .before .before .before .before .before .before .before .before .loop in
+    let a = c .before .before .before .before .before .before .before .before .before .before .before .args in (
+      omega arith,
+      rw add-one
+          (completes-next (wanted (a .p) (a .left) (a .right .now)) (turn .inv .1)
+          (rw (c .before .more .given .1, c .before .before .before .before .before .before .candidate-at .ensures) at (c .before .before .before .before .before .visit-pair .ensures))),
+    )
+
+same-length-2 : tie.Need-same-length-2 Inv-loop μ-loop
+same-length-2 c = c .before .loop .inv .1 .grows .long
+
+returns-2 : tie.Need-returns-2 Inv-loop μ-loop
+returns-2 c =
+    let e : c .before .loop .i ≡ c .before .before .before .args .count = omega arith in
+    rw e at (c .before .loop .inv .1)
+
+pub visit-fan-spec : {M : Type 1} → statement M
+visit-fan-spec =
+    tie.close
+    (tie.spec
+    Inv-loop
+    μ-loop
+    loop-holds
+    candidate-at-requires
+    visit-pair-requires
+    enum-known-more
+    enum-told
+    same-length
+    returns
+    add-i
+    loop-less
+    loop-again
+    same-length-2
+    returns-2)

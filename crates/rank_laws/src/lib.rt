@@ -1,0 +1,1 @@
+// Laws of ranks found pass by pass: theorems in proofs/, nothing to run.

@@ -1,0 +1,2 @@
+-- Where a look-up finds a position.
+pub mod Places

@@ -1,0 +1,9 @@
+pub mod Digits
+pub mod Keys
+pub mod Words
+pub mod Records
+pub mod Sorted
+pub mod Tables
+pub mod Rows
+pub mod Search
+pub mod Passes

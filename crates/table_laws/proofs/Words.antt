@@ -1,0 +1,116 @@
+-- Words of four bytes: what is written is read back, and all other bytes stay as they were. Assumes nothing.
+use Prim.Native.Nat.{ℕ, zero, suc, _+_, _*_, _/_, _%_, _^_, _≤_, _<_}
+use mathlib.Core.Path.{_≡_, refl, _∙_}
+use mathlib.Core.Logic.{_⊎_, inl, inr, ⊎-elim}
+use mathlib.Core.List.{List, [], _∷_}
+use native.Mathlib.Omega.{arith}
+use native.Mathlib.Nat.{add-zero, add-suc, suc-add}
+use lib.ListN.{length, drop, length-drop, getD, set, length-set}
+use lib.Pow.{recompose, mod-pow-add}
+use lib.Seq.{sets, getD-drop, getD-set-same, getD-set-other}
+use Rattle.outcome.specs.Bytes.{word, wordAt, cleared, thenZeros}
+use Rattle.table_laws.specs.Table.{putWord}
+
+-- ── A run of stores, of anything ──
+
+module _ {A : Type 0} where
+  pub sets-other : (l : List A) (i : ℕ) (vs : List A) (k : ℕ) (d : A) → (k < i) ⊎ (i + length vs ≤ k)
+      → getD (sets l i vs) k d ≡ getD l k d
+  sets-other l i [] k d h = refl
+  sets-other l i (v ∷ vs) k d h =
+      sets-other (set l i v) (suc i) vs k d (further h) ∙ getD-set-other l i k v d (⊎-elim (λ a e. omega arith) (λ a e. omega arith) h)
+    where
+      further : (k < i) ⊎ (i + suc (length vs) ≤ k) → (k < suc i) ⊎ (suc i + length vs ≤ k)
+      further (inl a) = inl (omega arith)
+      further (inr a) = inr (omega arith)
+
+  pub sets-inside : (l : List A) (i : ℕ) (vs : List A) (j : ℕ) (d : A) → j < length vs → i + length vs ≤ length l
+      → getD (sets l i vs) (i + j) d ≡ getD vs j d
+  sets-inside l i [] j d h k = absurd (omega arith)
+  sets-inside l i (v ∷ vs) zero d h k =
+      rw add-zero (sets-other (set l i v) (suc i) vs i d (inl (omega arith)) ∙ getD-set-same l i v d (omega arith))
+  sets-inside l i (v ∷ vs) (suc j) d h k =
+      rw (add-suc, ← suc-add) (sets-inside (set l i v) (suc i) vs j d (omega arith) (rw length-set (omega arith)))
+
+-- ── Words ──
+
+-- every byte of a list is one
+abbrev pub Bytes : List ℕ → Type 0
+Bytes l = (i : ℕ) → getD l i 0 < 256
+
+word-value : (n : ℕ) → n < 2 ^ 32
+    → n / 2 ^ 24 % 256 * 2 ^ 24 + n / 2 ^ 16 % 256 * 2 ^ 16 + n / 2 ^ 8 % 256 * 2 ^ 8 + n % 256 ≡ n
+word-value n h = omega (arith, recompose 8 24 h, mod-pow-add n 8 16, mod-pow-add n 8 8)
+
+pub word-bound : (l : List ℕ) (i : ℕ) → Bytes l → wordAt l i < 2 ^ 32
+unfolding wordAt
+word-bound l i b = omega (arith, b i, b (i + 1), b (i + 2), b (i + 3))
+
+-- the word of four bytes is these bytes
+pub word-bytes : (l : List ℕ) (i : ℕ) → Bytes l
+    → word (wordAt l i) ≡ getD l i 0 ∷ getD l (i + 1) 0 ∷ getD l (i + 2) 0 ∷ getD l (i + 3) 0 ∷ []
+unfolding word wordAt
+word-bytes l i b = four (getD l i 0) (getD l (i + 1) 0) (getD l (i + 2) 0) (getD l (i + 3) 0) (b i) (b (i + 1)) (b (i + 2)) (b (i + 3))
+  where
+    four : (w x y z : ℕ) → w < 256 → x < 256 → y < 256 → z < 256
+        → word (w * 2 ^ 24 + x * 2 ^ 16 + y * 2 ^ 8 + z) ≡ w ∷ x ∷ y ∷ z ∷ []
+    four w x y z a b c d =
+        let n = w * 2 ^ 24 + x * 2 ^ 16 + y * 2 ^ 8 + z in
+        let e₁ : n / 2 ^ 24 % 256 ≡ w = omega arith in
+        let e₂ : n / 2 ^ 16 % 256 ≡ x = omega arith in
+        let e₃ : n / 2 ^ 8 % 256 ≡ y = omega arith in
+        let e₄ : n % 256 ≡ z = omega arith in
+        cc
+
+pub word-byte : (l : List ℕ) (i k : ℕ) → Bytes l → k < 4 → getD (word (wordAt l i)) k 0 ≡ getD l (i + k) 0
+word-byte l i k b h = rw (word-bytes l i b) (at k h)
+  where
+    at : (k : ℕ) → k < 4
+        → getD (getD l i 0 ∷ getD l (i + 1) 0 ∷ getD l (i + 2) 0 ∷ getD l (i + 3) 0 ∷ []) k 0 ≡ getD l (i + k) 0
+    at zero h = rw add-zero
+    at (suc zero) h = refl
+    at (suc (suc zero)) h = refl
+    at (suc (suc (suc zero))) h = refl
+    at (suc (suc (suc (suc k)))) h = absurd (omega arith)
+
+-- a word is known by its bytes
+pub word-from : (l : List ℕ) (i n : ℕ) → n < 2 ^ 32 → ((k : ℕ) → k < 4 → getD l (i + k) 0 ≡ getD (word n) k 0)
+    → wordAt l i ≡ n
+unfolding word wordAt
+word-from l i n h e =
+    let first : getD l i 0 ≡ getD (word n) 0 0 = rw add-zero at (e 0 (omega arith)) in
+    rw (first, e 1 (omega arith), e 2 (omega arith), e 3 (omega arith)) (word-value n h)
+
+-- the word at the front of a part
+pub word-drop : (l : List ℕ) (i : ℕ) → wordAt (drop i l) 0 ≡ wordAt l i
+unfolding wordAt
+word-drop l i = simp (getD-drop, add-zero)
+
+-- ── A word written ──
+
+pub put-other : (l : List ℕ) (i n k : ℕ) → (k < i) ⊎ (i + 4 ≤ k) → getD (putWord l i n) k 0 ≡ getD l k 0
+unfolding word
+put-other l i n k = sets-other l i (word n) k 0
+
+pub put-inside : (l : List ℕ) (i n k : ℕ) → k < 4 → i + 4 ≤ length l → getD (putWord l i n) (i + k) 0 ≡ getD (word n) k 0
+unfolding word
+put-inside l i n k = sets-inside l i (word n) k 0
+
+pub read-word : (l : List ℕ) (i n : ℕ) → i + 4 ≤ length l → n < 2 ^ 32 → wordAt (putWord l i n) i ≡ n
+read-word l i n h b = word-from (putWord l i n) i n b (λ k m. put-inside l i n k m h)
+
+pub read-other-word : (l : List ℕ) (i n j : ℕ) → (j + 4 ≤ i) ⊎ (i + 4 ≤ j) → wordAt (putWord l i n) j ≡ wordAt l j
+unfolding wordAt
+read-other-word l i n j h =
+    let first : getD (putWord l i n) j 0 ≡ getD l j 0 = rw add-zero at (e 0 (omega arith)) in
+    rw (first, e 1 (omega arith), e 2 (omega arith), e 3 (omega arith))
+  where
+    e : (k : ℕ) → k < 4 → getD (putWord l i n) (j + k) 0 ≡ getD l (j + k) 0
+    e k m = put-other l i n (j + k) (⊎-elim (λ a. inl (omega arith)) (λ a. inr (omega arith)) h)
+
+-- ── Zeros behind what was written ──
+
+-- they do not depend on what stood there
+pub thenZeros-size : (written t u : List ℕ) → length t ≡ length u → thenZeros written t ≡ thenZeros written u
+unfolding thenZeros cleared
+thenZeros-size written t u e = rw (length-drop (length written) t, length-drop (length written) u, e)

@@ -1,26 +1,32 @@
 -- From the positions found to the table that is ranked: their keys, sorted, are the keys of the positions reached in order, and
 -- laid out they are the rows of those positions. Assumes nothing.
-use Prim.Native.Nat.{ℕ, _≤_}
+use Prim.Native.Nat.{ℕ, _*_, _^_, _≤_, _<_}
 use mathlib.Core.Path.{_≡_, refl, sym, _∙_, ap, ap₂}
 use mathlib.Core.Bool.{true}
 use mathlib.Core.List.{List, [], _∷_, _++_, map, flatMap, List·Memᴰ·head, List·Memᴰ·tail, Memᴰ·of-map}
 use native.Mathlib.Omega.{arith}
-use lib.ListN.{length}
+use lib.ListN.{length, getD, length-map}
 use Rattle.fra.specs.Lists.{_∈_}
 use Rattle.fra.specs.Rules.{Rules}
 use Rattle.fra.specs.Position.{legal, Rising}
-use Rattle.fra.specs.Reach.{reached}
+use Rattle.fra.specs.Reach.{reached, rank}
 use Rattle.fra.specs.Valid.{Valid}
 use Rattle.fra.specs.declared.Position.{Position}
 use Rattle.fra.specs.declared.Task.{Task}
 use Rattle.fra_laws.proofs.Legal.{legal-facts}
-use Rattle.fra_laws.proofs.Reached.{reached-rising, reached-legal}
+use Rattle.fra_laws.proofs.Count.{most-positions}
+use Rattle.fra_laws.proofs.Reached.{reached-rising, reached-legal, reached-unique}
 use Rattle.outcome.specs.Bytes.{allOnes}
+use Rattle.outcome.specs.Certificate.{roundsOrNever, entry, entries}
 use Rattle.table_laws.specs.Keys.{keyOf, positionFrom, Small}
 use Rattle.table_laws.specs.Sorted.{sorted, Ascending, Permuted}
-use Rattle.table_laws.specs.Table.{row, laidOut}
-use Rattle.table_laws.proofs.Keys.{position-of-key, key-rises, legal-small}
+use Rattle.table_laws.specs.Table.{keys, withKeys, row, laidOut}
+use Rattle.table_laws.proofs.Keys.{key-bound, position-of-key, key-rises, legal-small}
+use Rattle.table_laws.proofs.Records.{at-member, records-length}
 use Rattle.table_laws.proofs.Sorted.{ascending-sorted}
+use Rattle.table_laws.proofs.Tables.{keys-of-with}
+use Rattle.table_laws.proofs.Rows.{row-length}
+use Rattle.rank_laws.specs.Rows.{rows}
 
 -- positions of six registers that fit a key
 abbrev Packed : List Position → Type 0
@@ -54,11 +60,41 @@ module _ {t : Task} (valid : Valid 6 t) (left : t .left .«state_count» ≤ 16)
 
   -- ── The positions found, arranged ──
 
-  pub sorted-keys : (ks : List ℕ) → Permuted ks (map keyOf (reached g t)) → sorted ks ≡ map keyOf (reached g t)
+  sorted-keys : (ks : List ℕ) → Permuted ks (map keyOf (reached g t)) → sorted ks ≡ map keyOf (reached g t)
   sorted-keys ks p =
       sym
       (ascending-sorted (map keyOf (reached g t)) ks (keys-ascend (reached g t) packed (reached-rising valid g))
       (λ x. sym (p x)))
 
-  pub laid-out-rows : laidOut (map keyOf (reached g t)) ≡ flatMap (λ p. row p allOnes) (reached g t)
-  laid-out-rows = keys-laid-out (reached g t) packed
+  key-small : (i : ℕ) → i < length (map keyOf (reached g t)) → getD (map keyOf (reached g t)) i 0 < 2 ^ 32
+  key-small i b =
+      let (p, m, e) = Memᴰ·of-map keyOf (reached g t) (at-member (map keyOf (reached g t)) i 0 b) in
+      let (s, n) = packed p m in
+      let h : keyOf p < 256 * 8 ^ 6 = rw n at (key-bound p s) in
+      omega arith
+
+  keys-replaced : (table : List ℕ) → length (reached g t) * 12 ≤ length table
+      → keys (length (reached g t)) (withKeys (map keyOf (reached g t)) table) ≡ map keyOf (reached g t)
+  keys-replaced table room =
+      let long = length-map (reached g t) keyOf in
+      ap (λ (n : ℕ). keys n (withKeys (map keyOf (reached g t)) table)) (sym long)
+      ∙ keys-of-with (map keyOf (reached g t)) table (rw long room) key-small
+
+  -- sorted and laid out, they are the entries of the positions reached, without rounds
+  pub arranged : (table : List ℕ) → length (reached g t) * 12 ≤ length table
+      → Permuted (keys (length (reached g t)) table) (map keyOf (reached g t))
+      → laidOut (keys (length (reached g t)) (withKeys (sorted (keys (length (reached g t)) table)) table)) ≡ rows (λ p. allOnes) (reached g t)
+  unfolding rows
+  arranged table room found =
+      ap (λ (ks : List ℕ). laidOut (keys (length (reached g t)) (withKeys ks table))) (sorted-keys (keys (length (reached g t)) table) found)
+      ∙ ap laidOut (keys-replaced table room)
+      ∙ keys-laid-out (reached g t) packed
+
+  pub entries-length : length (entries g t) ≡ length (reached g t) * 12
+  unfolding entries entry row
+  entries-length =
+      records-length (entry g t (length (reached g t))) 12 (reached g t)
+      (λ p m. row-length p (roundsOrNever (rank g t (length (reached g t)) p)) (packed p m .1))
+
+  pub few-positions : length (reached g t) ≤ 3411712
+  few-positions = most-positions valid left right (reached g t) (reached-unique valid g) (reached-legal valid g)

@@ -20,18 +20,19 @@ use Rattle.explore.specs.declared.Explored.{Explored}
 use Rattle.explore.specs.declared.Explored.the-variants.{Count, TooMany}
 
 -- all positions found are expanded
-pub explores-all : {t : Task} {n done : ℕ} {old new : List ℕ} → Explorable t → Exploring bisimulation t n done new → n ≤ done
-    → length new ≡ length old
+pub explores-all : {t : Task} {n done : ℕ} {new : List ℕ} (old : List ℕ) → Explorable t
+    → Exploring bisimulation t (length old) n done new
+    → n ≤ done
     → Explores t old (Count n) new
 unfolding exploredIn capacity
-explores-all {t} {n} {done} {old} {new} task e l long =
+explores-all {t} {n} {done} {new} old task e l =
     record {
-      answer = rw (le-ltb (capacity old) (length (reached bisimulation t)) (omega (arith, e .stored .room, count)), exploredIn) (ap Count count);
-      long = long;
+      answer = rw (le-ltb (capacity old) (length (reached bisimulation t)) (omega (arith, e .stored .room, e .long, count)), exploredIn) (ap Count count);
+      long = e .long;
       found = λ k d. let same : n ≡ k = cc in subst (λ x. Permuted (keys x new) (map keyOf (reached bisimulation t))) same all;
     }
   where
-    ended : Exploring bisimulation t n n new
+    ended : Exploring bisimulation t (length old) n n new
     ended = let d : done ≡ n = omega (arith, e .ahead) in rw d at e
 
     count : n ≡ length (reached bisimulation t)

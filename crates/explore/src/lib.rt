@@ -1,6 +1,7 @@
 // Exploring in place (01, "Positions reached are the start and all that attacks and replies lead to"): the lent table is the set
 // of positions found, and the queue of those whose successors are still to be found.
 use fra::Task;
+ghost use lib.ListN.{length};
 ghost use Rattle.fra.specs.Rules.{bisimulation};
 ghost use Rattle.fra.specs.Valid.{Valid};
 ghost use Rattle.explore_laws.specs.Exploring.{Explorable, Exploring};
@@ -17,13 +18,13 @@ pub enum Explored {
 
 // Expands one entry after another, where n positions are found, until all are expanded.
 fn expand_all(table: &mut [u8], n: usize, t: Task) -> Explored
-    requires { ⌜ Explorable t × Exploring bisimulation t n 0 (now table) ⌝ }
+    requires { ⌜ Explorable t × Exploring bisimulation t (length (now table)) n 0 (now table) ⌝ }
     ensures { λ r. ⌜ Explores t (now (table .entry)) r (now (table .exit)) ⌝ }
 {
     let mut found = n;
     let mut done: usize = 0;
     while done < found {
-        let p = table::position(table::word_at(table, done * set::ENTRY));
+        let p = table::position(table::word_at(table, done * table::ENTRY));
         let Explored::Count(more) = expand::visit_successors(table, found, t, p) else {
             return Explored::TooMany;
         };

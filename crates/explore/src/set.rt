@@ -1,14 +1,13 @@
 // The set of keys in the table: a chained hash set with a bucket for each entry. An entry's three words are a key, its link, and
 // the head of the bucket of the same number; a link or head is an index plus one, or 0 for none.
+use table::ENTRY;
 ghost use Prim.Native.Nat.{_+_, _*_, _≤_, _<_};
 ghost use mathlib.Core.Path.{_≡_};
 ghost use Rattle.outcome.specs.Compare.{capacity};
 ghost use Rattle.explore_laws.specs.Stored.{bucketOf, keyLimit, withEntry, Stored, Walkable, Walked};
 ghost use Rattle.explore.specs.Answers.{Inserts};
 
-// The bytes of an entry, and where its link and the head of its bucket stand in it.
-pub const ENTRY: usize = 12;
-
+// Where an entry's link and the head of its bucket stand in it.
 const LINK: usize = 4;
 
 const HEAD: usize = 8;

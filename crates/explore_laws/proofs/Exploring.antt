@@ -1,7 +1,7 @@
 -- Exploring step by step: the invariant holds once the start is found and stays as positions are expanded; when all are
 -- expanded, the keys are those of the positions reached; and where a key has no room, the positions reached outnumber the
 -- table's entries. Assumes nothing.
-use Prim.Native.Nat.{ℕ, suc, _<_}
+use Prim.Native.Nat.{ℕ, _+_, _<_}
 use mathlib.Core.Path.{_≡_, refl, sym, _∙_, ap, subst}
 use mathlib.Core.Logic.{⊎-elim}
 use mathlib.Core.Bool.{true}
@@ -53,7 +53,7 @@ module _ {t : Task} (task : Explorable t) (g : Rules) where
   reached-from w = subst (Reached g t) (sym (ap positionFrom (w .2) ∙ from-key (w .0) (w .1))) (w .1)
 
   -- a position that is found can be expanded
-  pub exploring-expandable : {n done : ℕ} {table : List ℕ} → Exploring g t n done table → done < n
+  pub exploring-expandable : {size n done : ℕ} {table : List ℕ} → Exploring g t size n done table → done < n
       → Expandable t (positionFrom (keyAt table done)) n table
   exploring-expandable e l =
       record { task = task; is-legal = is-legal _ (reached-from (e .reached _ l)); stored = e .stored }
@@ -61,9 +61,11 @@ module _ {t : Task} (task : Explorable t) (g : Rules) where
   start-reached : (k : ℕ) → k ≡ keyOf (t .start) → ReachedKey g t k
   start-reached k e = (t .start, begin, e)
 
-  pub exploring-begins : {n : ℕ} {old new : List ℕ} → Completes (λ x. x ≡ keyOf (t .start)) 0 old n new → Exploring g t n 0 new
-  exploring-begins {n} {old} {new} c =
+  pub exploring-begins : {n : ℕ} {old new : List ℕ} → Completes (λ x. x ≡ keyOf (t .start)) 0 old n new
+      → Exploring g t (length new) n 0 new
+  exploring-begins c =
       record {
+        long = refl;
         stored = c .grows .stored;
         reached = grown-all (ReachedKey g t) (c .grows) (λ i l. absurd (omega arith)) start-reached;
         started = c .complete (keyOf (t .start)) refl;
@@ -75,11 +77,12 @@ module _ {t : Task} (task : Explorable t) (g : Rules) where
   successors-reached : {k : ℕ} → ReachedKey g t k → (x : ℕ) → SuccessorKey g t (positionFrom k) x → ReachedKey g t x
   successors-reached w x s = (s .0, onward (reached-from w) (s .1), s .2)
 
-  pub exploring-goes-on : {n m done : ℕ} {old new : List ℕ} → Exploring g t n done old → done < n
+  pub exploring-goes-on : {size n m done : ℕ} {old new : List ℕ} → Exploring g t size n done old → done < n
       → Completes (SuccessorKey g t (positionFrom (keyAt old done))) n old m new
-      → Exploring g t m (suc done) new
-  exploring-goes-on {n} {m} {done} {old} {new} e l c =
+      → Exploring g t size m (done + 1) new
+  exploring-goes-on {m = m} {done} {old} {new} e l c =
       record {
+        long = c .grows .long ∙ e .long;
         stored = c .grows .stored;
         reached = grown-all (ReachedKey g t) (c .grows) (e .reached) (successors-reached (e .reached done l));
         started = holds-kept (c .grows) (e .started);
@@ -87,7 +90,7 @@ module _ {t : Task} (task : Explorable t) (g : Rules) where
         expanded = λ i h. expanded i h (ℕ-discrete i done);
       }
     where
-      expanded : (i : ℕ) → i < suc done → Dec (i ≡ done) → (k : ℕ) → SuccessorKey g t (positionFrom (keyAt new i)) k → Holds m new k
+      expanded : (i : ℕ) → i < done + 1 → Dec (i ≡ done) → (k : ℕ) → SuccessorKey g t (positionFrom (keyAt new i)) k → Holds m new k
       expanded i h (yes d) k w =
           c .complete k (subst (λ j. SuccessorKey g t (positionFrom j) k) (ap (keyAt new) d ∙ c .grows .kept done l) w)
       expanded i h (no d) k w =
@@ -99,7 +102,7 @@ module _ {t : Task} (task : Explorable t) (g : Rules) where
   keys-reached n table all k m = let h = member-holds n table k m in subst (ReachedKey g t) (h .2) (all (h .0) (h .1))
 
   -- all are expanded
-  module _ {n : ℕ} {table : List ℕ} (e : Exploring g t n n table) where
+  module _ {size n : ℕ} {table : List ℕ} (e : Exploring g t size n n table) where
     leads : (p q : Position) → Reached g t p → keyOf p ∈ keys n table → q ∈ successors g t p → keyOf q ∈ keys n table
     leads p q c m s =
         let h = member-holds n table (keyOf p) m in
@@ -145,7 +148,9 @@ module _ {t : Task} (task : Explorable t) (g : Rules) where
       → capacity old < length (reached g t)
   first-overflows o = overflows-reached o (λ i l. absurd (omega arith)) start-reached
 
-  pub next-overflows : {n done : ℕ} {old new : List ℕ} → Exploring g t n done old → done < n
+  pub next-overflows : {n done : ℕ} {old new : List ℕ} (entry : List ℕ) → Exploring g t (length entry) n done old → done < n
       → Overflows (SuccessorKey g t (positionFrom (keyAt old done))) n old new
-      → capacity old < length (reached g t)
-  next-overflows {done = done} e l o = overflows-reached o (e .reached) (successors-reached (e .reached done l))
+      → capacity entry < length (reached g t)
+  unfolding capacity
+  next-overflows {done = done} entry e l o =
+      rw (e .long) at (overflows-reached o (e .reached) (successors-reached (e .reached done l)))

@@ -1,5 +1,5 @@
 -- Growing goes on step by step and place by place, and keeps what holds of all keys. Assumes nothing.
-use Prim.Native.Nat.{ℕ, suc, _/_, _≤_, _<_}
+use Prim.Native.Nat.{ℕ, _+_, _/_, _≤_, _<_}
 use mathlib.Core.Path.{_≡_, refl, _∙_, ap, subst}
 use mathlib.Core.List.{List}
 use native.Mathlib.Omega.{arith}
@@ -7,7 +7,7 @@ use native.Mathlib.Decide.{ℕ-discrete, decLt}
 use Rattle.outcome.specs.Compare.{capacity}
 use Rattle.table_laws.specs.Table.{keyAt}
 use Rattle.explore_laws.specs.Stored.{Stored, Holds}
-use Rattle.explore_laws.specs.Growth.{Grows, Completes, Overflows, Before}
+use Rattle.explore_laws.specs.Growth.{Grows, Completes, Overflows, Before, Passed}
 
 -- ── Step by step ──
 
@@ -74,44 +74,55 @@ completes-none s none = record { grows = grows-none s; complete = λ k w. absurd
 
 -- ── Place by place ──
 
-module _ (Wanted : ℕ → ℕ → Type 0) where
-  before-more : (i e : ℕ) → i ≤ e → (k : ℕ) → Before i Wanted k → Before e Wanted k
-  before-more i e l k w = (w .0, omega (arith, w .1), w .2)
+module _ (e : ℕ) (Wanted : ℕ → ℕ → Type 0) where
+  before-more : (i j : ℕ) → i ≤ j → (k : ℕ) → Before i Wanted k → Before j Wanted k
+  before-more i j l k (h, b, w) = (h, omega arith, w)
 
-  before-last : (i e : ℕ) → i < e → (k : ℕ) → Wanted i k → Before e Wanted k
-  before-last i e l k w = (i, l, w)
+  before-last : (i j : ℕ) → i < j → (k : ℕ) → Wanted i k → Before j Wanted k
+  before-last i j l k w = (i, l, w)
 
-  pub completes-first : {n : ℕ} {table : List ℕ} → Stored n table → Completes (Before 0 Wanted) n table n table
-  completes-first s = completes-none s (λ k w. omega (arith, w .1))
+  pub passed-none : {n : ℕ} {table : List ℕ} → Stored n table → Passed e Wanted 0 n table n table
+  passed-none s = record { within = omega arith; visited = completes-none s (λ k w. omega (arith, w .1)) }
 
-  pub completes-next : {n m l i : ℕ} {a b c : List ℕ} → Completes (Before i Wanted) n a m b → Completes (Wanted i) m b l c
-      → Completes (Before (suc i) Wanted) n a l c
-  completes-next {l = l} {i = i} {c = c} f g =
+  pub passed-next : {n m l i : ℕ} {a b c : List ℕ} → i < e → Passed e Wanted i n a m b → Completes (Wanted i) m b l c
+      → Passed e Wanted (i + 1) n a l c
+  passed-next {l = l} {i = i} {c = c} h f g =
       record {
-        grows =
-            grows-then (before-more i (suc i) (omega arith)) (before-last i (suc i) (omega arith)) (f .grows) (g .grows);
-        complete = λ k w. step k w (ℕ-discrete (w .0) i);
+        within = omega arith;
+        visited =
+            record {
+              grows =
+                  grows-then (before-more i (i + 1) (omega arith)) (before-last i (i + 1) (omega arith)) (f .visited .grows)
+                  (g .grows);
+              complete = λ k w. step k w (ℕ-discrete (w .0) i);
+            };
       }
     where
-      step : (k : ℕ) (w : Before (suc i) Wanted k) → Dec (w .0 ≡ i) → Holds l c k
-      step k w (yes e) = g .complete k (subst (λ j. Wanted j k) e (w .2))
-      step k w (no d) = holds-kept (g .grows) (f .complete k (w .0, omega (arith, w .1), w .2))
+      step : (k : ℕ) (w : Before (i + 1) Wanted k) → Dec (w .0 ≡ i) → Holds l c k
+      step k w (yes d) = g .complete k (subst (λ j. Wanted j k) d (w .2))
+      step k w (no d) = holds-kept (g .grows) (f .visited .complete k (w .0, omega (arith, w .1), w .2))
 
   -- nothing is wanted at this place
-  pub completes-skip : {n m i : ℕ} {a b : List ℕ} → ((k : ℕ) → Wanted i k → ⊥) → Completes (Before i Wanted) n a m b
-      → Completes (Before (suc i) Wanted) n a m b
-  completes-skip none f = completes-next f (completes-none (f .grows .stored) none)
+  pub passed-skip : {n m i : ℕ} {a b : List ℕ} → i < e → Passed e Wanted i n a m b → ((k : ℕ) → Wanted i k → ⊥)
+      → Passed e Wanted (i + 1) n a m b
+  passed-skip h f none = passed-next h f (completes-none (f .visited .grows .stored) none)
 
-  pub overflows-next : {n m i e : ℕ} {a b c : List ℕ} → i < e → Completes (Before i Wanted) n a m b → Overflows (Wanted i) m b c
+  -- a key wanted at this place has no room
+  pub passed-overflows : {n m i : ℕ} {a b c : List ℕ} → i < e → Passed e Wanted i n a m b → Overflows (Wanted i) m b c
       → Overflows (Before e Wanted) n a c
   unfolding capacity
-  overflows-next {m = m} {i} {e} {a} {b} {c} l f o =
-      let same : capacity b ≡ capacity a = ap (λ n. n / 12) (f .grows .long) in
+  passed-overflows {m = m} {i} {a} {b} {c} h f o =
+      let same : capacity b ≡ capacity a = ap (λ n. n / 12) (f .visited .grows .long) in
       record {
         grows =
-            grows-then (before-more i e (omega arith)) (before-last i e l) (f .grows)
+            grows-then (before-more i e (omega arith)) (before-last i e h) (f .visited .grows)
             (subst (λ x. Grows (Wanted i) m b x c) same (o .grows));
         key = o .key;
-        wanted = before-last i e l (o .key) (o .wanted);
+        wanted = before-last i e h (o .key) (o .wanted);
         missing = subst (λ x. Holds x c (o .key) → ⊥) same (o .missing);
       }
+
+  pub passed-all : {n m i : ℕ} {a b : List ℕ} → e ≤ i → Passed e Wanted i n a m b → Completes (Before e Wanted) n a m b
+  passed-all {n} {m} {i} {a} {b} h f =
+      let d : i ≡ e = omega (arith, f .within) in
+      subst (λ j. Completes (Before j Wanted) n a m b) d (f .visited)

@@ -4,6 +4,7 @@ use Prim.Native.Nat.{ℕ, _≤_, _<_}
 use mathlib.Core.Path.{_≡_}
 use mathlib.Core.Bool.{true}
 use mathlib.Core.List.{List}
+use lib.ListN.{length}
 use Rattle.fra.specs.Lists.{_∈_}
 use Rattle.fra.specs.Rules.{Rules}
 use Rattle.fra.specs.Position.{legal}
@@ -36,8 +37,9 @@ pub record Expandable (t : Task) (p : Position) (n : ℕ) (table : List ℕ) : T
   pub is-legal : legal 6 t p ≡ true
   pub stored : Stored n table
 
--- n positions are found, and the first `done` of them are expanded: all their successors are found
-pub record Exploring (g : Rules) (t : Task) (n done : ℕ) (table : List ℕ) : Type 0 where
+-- n positions are found in a table of `size` bytes, and the first `done` of them are expanded: all their successors are found
+pub record Exploring (g : Rules) (t : Task) (size n done : ℕ) (table : List ℕ) : Type 0 where
+  pub long : length table ≡ size
   pub stored : Stored n table
   pub reached : (i : ℕ) → i < n → ReachedKey g t (keyAt table i)
   pub started : Holds n table (keyOf (t .start))

@@ -30,3 +30,8 @@ pub record Overflows (Wanted : ℕ → Type 0) (n : ℕ) (old : List ℕ) (new :
 -- wanted at some place below n
 abbrev pub Before : ℕ → (ℕ → ℕ → Type 0) → ℕ → Type 0
 Before n Wanted k = (i : ℕ) × (i < n) × Wanted i k
+
+-- the first i of e places are passed: all keys wanted there are held
+pub record Passed (e : ℕ) (Wanted : ℕ → ℕ → Type 0) (i n : ℕ) (old : List ℕ) (m : ℕ) (new : List ℕ) : Type 0 where
+  pub within : i ≤ e
+  pub visited : Completes (Before i Wanted) n old m new

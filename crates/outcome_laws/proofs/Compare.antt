@@ -67,25 +67,29 @@ module _ (c : Contest) (t : Task) (table buffer : List ℕ) where
     pub count : positions ≡ length (reached (c .rules) t)
     pub bytes : size ≡ length written
     pub start : ((v ≡ c .kept) × (start ≡ none) × (n ≡ 0)) ⊎ (v ≡ c .lost) × (start ≡ some n)
+    pub fits : size ≤ length buffer
     pub outcome : compareTask c t table buffer ≡ found
 
   decided-says : (v : Verdict) (positions n size : ℕ) (o : Option ℕ) → start ≡ o
       → decided c (length (reached (c .rules) t)) o (length written) ≡ Decided v positions n size
+      → length written ≤ length buffer
       → compareTask c t table buffer ≡ found
       → Says v positions n size
   unfolding decided
-  decided-says v positions n size none e d f =
+  decided-says v positions n size none e d l f =
       record {
         count = cc;
         bytes = cc;
         start = let a : v ≡ c .kept = cc in let b : n ≡ 0 = cc in inl (a, e, b);
+        fits = let long : size ≡ length written = cc in omega arith;
         outcome = f;
       }
-  decided-says v positions n size (some k) e d f =
+  decided-says v positions n size (some k) e d l f =
       record {
         count = cc;
         bytes = cc;
         start = let a : v ≡ c .lost = cc in let b : k ≡ n = cc in inr (a, e ∙ ap {B = Option ℕ} some b);
+        fits = let long : size ≡ length written = cc in omega arith;
         outcome = f;
       }
 
@@ -99,7 +103,7 @@ module _ (c : Contest) (t : Task) (table buffer : List ℕ) where
           → Says v positions n size
       by (too-small h) f e = let z : _≡_ {A = ℕ} 0 1 = cc in absurd (omega arith)
       by (too-long h l) f e = let z : _≡_ {A = ℕ} 0 1 = cc in absurd (omega arith)
-      by (verdict h l) f e = decided-says v positions n size start refl e f
+      by (verdict h l) f e = decided-says v positions n size start refl e l f
 
   -- ── Refusals 11 and 12, each in its case ──
 

@@ -1,6 +1,6 @@
 -- Levels: how one pass finds the next, what they say of positions lost within k rounds, and when they are final. For any rules,
 -- task and register count. Assumes nothing.
-use Prim.Native.Nat.{ℕ, zero, suc, _≤_, _<_}
+use Prim.Native.Nat.{ℕ, suc, _≤_, _<_}
 use mathlib.Core.Path.{_≡_, refl, sym, _∙_, ap}
 use mathlib.Core.Logic.{inr, ⊎-elim}
 use mathlib.Core.Bool.{Bool, true, false, cond, _&&_}
@@ -18,10 +18,10 @@ use Rattle.fra.specs.Reach.{rank}
 use Rattle.fra.specs.declared.Position.{Position}
 use Rattle.fra.specs.declared.Task.{Task}
 use Rattle.fra.specs.declared.Attack.{Attack}
-use Rattle.fra_laws.proofs.Tests.{not-both, fails-unless, same-test}
-use Rattle.fra_laws.proofs.Lists.{any-witness, any-none, all-at, all-intro, any-intro, first-found, first-none}
-use Rattle.fra_laws.proofs.Lost.{Winnable, lost-step, not-lost-within-fewer, lost-within-more}
-use Rattle.fra_laws.proofs.Rounds.{HasRank, Closed, Settled, rank-some, rank-none, rank-exactly, rank-never, settled-never-lost, rank-at-most-length}
+use Rattle.fra_laws.proofs.Tests.{not-both, fails-unless}
+use Rattle.fra_laws.proofs.Lists.{any-witness, any-none, all-at, all-intro, first-found, first-none}
+use Rattle.fra_laws.proofs.Lost.{lost-step, not-lost-within-fewer, lost-within-more}
+use Rattle.fra_laws.proofs.Rounds.{Closed, Settled, rank-some, rank-none, rank-exactly, rank-never, settled-never-lost, rank-at-most-length}
 use Rattle.outcome.specs.Bytes.{allOnes}
 use Rattle.outcome.specs.Certificate.{roundsOrNever, wins, chosen}
 use Rattle.rank_laws.specs.Winner.{isFound}

@@ -1,14 +1,13 @@
 -- A table of positions in which some entries have their new rounds already, and the others their old ones: how it is read, and
 -- how it grows by one entry. Assumes nothing.
-use Prim.Native.Nat.{ℕ, zero, suc, _+_, _*_, _^_, _≤_, _<_}
+use Prim.Native.Nat.{ℕ, zero, suc, _+_, _*_, _^_, _<_}
 use mathlib.Core.Path.{_≡_, refl, sym, _∙_, ap, subst}
 use mathlib.Core.Logic.{_⊎_, inl, inr, ⊎-elim}
 use mathlib.Core.Bool.{Bool, true, false, cond}
-use mathlib.Core.List.{List, [], _∷_, _++_, map, flatMap, append-assoc, append-nil, Memᴰ·map}
+use mathlib.Core.List.{List, [], _∷_, _++_, map, flatMap, append-assoc, append-nil, Memᴰ·map, List·Memᴰ·head, List·Memᴰ·tail}
 use native.Mathlib.Omega.{arith}
-use native.Mathlib.Nat.{add-zero}
 use lib.ListN.{length, getD, set, take, drop, length-append, length-map, drop-of-length-le, List·getD-append}
-use lib.Seq.{sets, sets-eq, take-at, drop-at, drop-cons, drop-drop, getD-append-add, ext-getD, set-getD}
+use lib.Seq.{sets, sets-eq, take-at, drop-cons, drop-drop, getD-append-add, ext-getD, set-getD}
 use Rattle.fra.specs.Lists.{_∈_}
 use Rattle.fra.specs.Position.{bytes, unmatched}
 use Rattle.fra.specs.declared.Position.{Position}
@@ -51,6 +50,12 @@ row-write p old new six =
     sym
     (sets-eq (word new) (row p old) 8 (omega arith)
     ∙ rw (take-at (bytes p) (word old) 8 long, drop-of-length-le (row p old) {i = 12} (omega arith), append-nil))
+
+-- records that agree on a list
+pub flatMap-same : {A B : Type 0} (f h : A → List B) (l : List A) → ((x : A) → x ∈ l → f x ≡ h x) → flatMap f l ≡ flatMap h l
+unfolding flatMap
+flatMap-same f h [] e = refl
+flatMap-same f h (x ∷ l) e = rw (e x (List·Memᴰ·head refl), flatMap-same f h l (λ y m. e y (List·Memᴰ·tail m)))
 
 -- ── Entries with new rounds f up to a place, and old rounds h from there on ──
 

@@ -11,6 +11,7 @@ use Rattle.fra.specs.Game.{attackEdge, answers}
 use Rattle.fra.specs.declared.EdgeKind.{EdgeKind}
 use Rattle.fra.specs.declared.Position.{Position}
 use Rattle.fra.specs.declared.Task.{Task}
+use Rattle.fra.specs.declared.IdCase.{IdCase}
 use Rattle.fra.specs.declared.Attack.{Attack}
 use Rattle.moves.specs.Rounds.{movedTo, targetOf}
 use Rattle.moves.specs.declared.rounds.Target.{Target}
@@ -29,6 +30,11 @@ challengeOf t p a =
       partner = partner p (a .side) (registerOf (attackEdge t a .kind));
       case = a .case;
     }
+
+-- the same challenge in another id case
+abbrev pub inCase : Challenge → IdCase → Challenge
+inCase c case =
+    record { position = c .position; side = c .side; target = c .target; partner = c .partner; case = case }
 
 -- an edge of this kind is a reply
 abbrev pub isAnswer : Challenge → EdgeKind → Bool

@@ -2,7 +2,7 @@
 // the first of them a position's key; afterwards it holds the position's eight bytes and its rounds.
 use fra::Position;
 ghost use mathlib.Core.Path.{_≡_};
-ghost use Prim.Native.Nat.{_+_, _*_, _≤_, _<_};
+ghost use Prim.Native.Nat.{_+_, _*_, _≤_};
 ghost use mathlib.Core.List.{_++_};
 ghost use lib.ListN.{length, take, drop};
 ghost use lib.Seq.{sets};
@@ -12,6 +12,13 @@ ghost use Rattle.table_laws.specs.Digits.{value};
 ghost use Rattle.table_laws.specs.Keys.{keyOf, positionFrom};
 ghost use Rattle.table_laws.specs.Table.{putWord, keys, laidOut, row, positionAt, positions};
 ghost use Rattle.table.specs.Places.{placeOf};
+
+// The bytes of an entry, the place of the rounds among them, and the rounds of a position that is never lost.
+pub const ENTRY: usize = 12;
+
+pub const ROUNDS: usize = 8;
+
+pub const NEVER: u32 = 4294967295;
 
 // Where a look-up finds a position.
 pub enum Place {
@@ -121,9 +128,9 @@ fn put_row(table: &mut [u8], i: usize, p: Position)
     requires { ⌜ i * 12 + 12 ≤ length (now table) ⌝ }
     ensures { λ _. ⌜ now (table .exit) ≡ sets (now (table .entry)) (i * 12) (row p allOnes) ⌝ }
 {
-    put_word(table, i * 12, high(p));
-    put_word(table, i * 12 + 4, low(p));
-    put_word(table, i * 12 + 8, 4294967295);
+    put_word(table, i * ENTRY, high(p));
+    put_word(table, i * ENTRY + 4, low(p));
+    put_word(table, i * ENTRY + ROUNDS, NEVER);
 }
 
 // Turns the first n entries from keys into positions that are never lost.
@@ -133,7 +140,7 @@ pub fn lay_out(table: &mut [u8], n: usize)
 {
     let mut i = 0;
     while i < n {
-        put_row(table, i, position(word_at(table, i * 12)));
+        put_row(table, i, position(word_at(table, i * ENTRY)));
         i += 1;
     }
 }
@@ -143,7 +150,7 @@ pub fn position_at(table: &[u8], i: usize) -> Position
     requires { ⌜ i * 12 + 12 ≤ length (now table) ⌝ }
     ensures { λ r. ⌜ r ≡ positionAt (now (table .entry)) i ⌝ }
 {
-    let at = i * 12;
+    let at = i * ENTRY;
     let partners = [
         table[at + 2],
         table[at + 3],
@@ -184,14 +191,14 @@ pub fn find(table: &[u8], n: usize, p: Position) -> Place
     let mut high = n;
     while low < high {
         let middle = low + (high - low) / 2;
-        if number_at(table, middle * 12) < sought {
+        if number_at(table, middle * ENTRY) < sought {
             low = middle + 1;
         } else {
             high = middle;
         }
     }
     if low < n {
-        if number_at(table, low * 12) == sought {
+        if number_at(table, low * ENTRY) == sought {
             return Place::At(low);
         }
     }

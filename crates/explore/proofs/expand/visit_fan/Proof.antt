@@ -1,17 +1,16 @@
 -- `explore::expand::visit_fan` meets its contract. The loop's invariant: the keys wanted at the places passed are held.
 -- Assumes nothing.
-use Prim.Native.Nat.{ℕ, _≤_, _-_}
-use mathlib.Core.Path.{_≡_, _∙_}
+use Prim.Native.Nat.{ℕ, _-_}
+use mathlib.Core.Path.{_∙_}
 use mathlib.Core.List.{List}
-use native.Mathlib.Numerals.{add-one}
 use native.Mathlib.Omega.{arith}
 use borrow.Author.Needs.{needs}
 use Rattle.fra.specs.declared.Position.{Position}
 use Rattle.replies.specs.Fan.{candidateAt}
 use Rattle.replies.specs.declared.fan.Candidate.{Candidate}
-use Rattle.explore_laws.specs.Growth.{Completes, Before}
+use Rattle.explore_laws.specs.Growth.{Passed}
 use Rattle.explore_laws.specs.Pairs.{PairKey}
-use Rattle.explore_laws.proofs.Growth.{completes-first, completes-next, overflows-next}
+use Rattle.explore_laws.proofs.Growth.{passed-none, passed-next, passed-overflows, passed-all}
 use Rattle.explore.proofs.expand.visit_fan.Statement.{statement}
 use Rattle.explore.proofs.expand.visit_fan.Tie as tie
 
@@ -20,7 +19,7 @@ abbrev wanted : Position → Candidate → List ℕ → ℕ → ℕ → Type 0
 wanted p left right i = PairKey p left (candidateAt right i)
 
 abbrev Inv-loop : tie.InvT-loop
-Inv-loop table₀ n p left right count m₀ i₀ table m i = (i ≤ count) × Completes (Before i (wanted p left right)) n table₀ m table
+Inv-loop table₀ n p left right count m₀ i₀ table m i = Passed count (wanted p left right) i n table₀ m table
 
 abbrev μ-loop : tie.MeasureT-loop
 μ-loop table₀ n p left right count m₀ i₀ table m i = count - i
@@ -28,13 +27,13 @@ abbrev μ-loop : tie.MeasureT-loop
 loop-holds : tie.Need-loop-holds Inv-loop μ-loop
 loop-holds c =
     let a = c .before .args in
-    (omega arith, completes-first (wanted (a .p) (a .left) (a .right .now)) (c .before .pre))
+    passed-none (a .count) (wanted (a .p) (a .left) (a .right .now)) (c .before .pre)
 
 candidate-at-requires : tie.Need-candidate-at-requires Inv-loop μ-loop
 candidate-at-requires c κs = search needs
 
 visit-pair-requires : tie.Need-visit-pair-requires Inv-loop μ-loop
-visit-pair-requires c κs = c .before .before .before .loop .inv .1 .grows .stored
+visit-pair-requires c κs = c .before .before .before .loop .inv .visited .grows .stored
 
 enum-known-more : tie.Need-enum-known-more Inv-loop μ-loop
 enum-known-more c = search needs
@@ -45,14 +44,15 @@ enum-told c = search needs
 same-length : tie.Need-same-length Inv-loop μ-loop
 same-length c =
     c .before .before .before .before .visit-pair .kept .0
-    ∙ c .before .before .before .before .before .before .before .before .loop .inv .1 .grows .long
+    ∙ c .before .before .before .before .before .before .before .before .loop .inv .visited .grows .long
 
 returns : tie.Need-returns Inv-loop μ-loop
 returns c =
-    let turn = c .before .before .before .before .before .before .before .before .loop in
-    let a = c .before .before .before .before .before .before .before .before .before .before .args in
-    overflows-next (wanted (a .p) (a .left) (a .right .now)) (c .before .before .before .before .before .before .before .loop-test .taken) (turn .inv .1)
-    (rw (c .enum-told .given .1, c .before .before .before .before .before .candidate-at .ensures) at (c .before .before .before .before .visit-pair .ensures))
+    let call = c .before .before .before .before in
+    let turn = call .before .before .before in
+    let a = turn .before .before .before .args in
+    passed-overflows (a .count) (wanted (a .p) (a .left) (a .right .now)) (turn .loop-test .taken) (turn .before .loop .inv)
+    (rw (c .enum-told .given .1, call .before .candidate-at .ensures) at (call .visit-pair .ensures))
 
 add-i : tie.Need-add-i Inv-loop μ-loop
 add-i c = omega arith
@@ -62,21 +62,19 @@ loop-less c = omega arith
 
 loop-again : tie.Need-loop-again Inv-loop μ-loop
 loop-again c =
-    let turn = c .before .before .before .before .before .before .before .before .before .loop in
-    let a = c .before .before .before .before .before .before .before .before .before .before .before .args in (
-      omega arith,
-      rw add-one
-          (completes-next (wanted (a .p) (a .left) (a .right .now)) (turn .inv .1)
-          (rw (c .before .more .given .1, c .before .before .before .before .before .before .candidate-at .ensures) at (c .before .before .before .before .before .visit-pair .ensures))),
-    )
+    let call = c .before .before .before .before .before in
+    let turn = call .before .before .before in
+    let a = turn .before .before .before .args in
+    passed-next (a .count) (wanted (a .p) (a .left) (a .right .now)) (turn .loop-test .taken) (turn .before .loop .inv)
+    (rw (c .before .more .given .1, call .before .candidate-at .ensures) at (call .visit-pair .ensures))
 
 same-length-2 : tie.Need-same-length-2 Inv-loop μ-loop
-same-length-2 c = c .before .loop .inv .1 .grows .long
+same-length-2 c = c .before .loop .inv .visited .grows .long
 
 returns-2 : tie.Need-returns-2 Inv-loop μ-loop
 returns-2 c =
-    let e : c .before .loop .i ≡ c .before .before .before .args .count = omega arith in
-    rw e at (c .before .loop .inv .1)
+    let a = c .before .before .before .args in
+    passed-all (a .count) (wanted (a .p) (a .left) (a .right .now)) (c .loop-test .left) (c .before .loop .inv)
 
 pub visit-fan-spec : {M : Type 1} → statement M
 visit-fan-spec =

@@ -1,0 +1,230 @@
+-- What a pass finds at each entry, and what passes leave. Assumes nothing.
+use Prim.Native.Nat.{ℕ, suc, _+_, _*_, _-_, _^_, _≤_, _<_}
+use mathlib.Core.Path.{_≡_, refl, sym, _∙_, ap}
+use mathlib.Core.Logic.{⊎-elim}
+use mathlib.Core.Bool.{Bool, true, false, _||_, or-false, or-assoc}
+use mathlib.Core.List.{List, [], _++_, List·Memᴰ·head, List·Memᴰ·tail}
+use mathlib.Core.Option.{Option, none, some}
+use native.Mathlib.Nat.{le-refl}
+use native.Mathlib.Numerals.{add-one}
+use native.Mathlib.Omega.{arith}
+use lib.ListN.{length, getD, drop, drop-of-length-le}
+use lib.Seq.{drop-at, drop-cons}
+use borrow.Author.Tests.{ne-eqb}
+use Rattle.fra.specs.Lists.{_∈_, any}
+use Rattle.fra.specs.Rules.{bisimulation}
+use Rattle.fra.specs.Position.{Rising}
+use Rattle.fra.specs.Game.{after, lostAtOnce, lostWithin}
+use Rattle.fra.specs.Reach.{rank, reached}
+use Rattle.fra.specs.Valid.{Valid}
+use Rattle.fra.specs.declared.Position.{Position}
+use Rattle.fra.specs.declared.Task.{Task}
+use Rattle.fra.specs.declared.Attack.{Attack}
+use Rattle.fra_laws.proofs.Tests.{not-both}
+use Rattle.fra_laws.proofs.Order.{before-irreflexive}
+use Rattle.fra_laws.proofs.Lengths.{flatMap-length}
+use Rattle.fra_laws.proofs.Legal.{legal-facts}
+use Rattle.fra_laws.proofs.Reached.{reached-rising, reached-after, reached-legal}
+use Rattle.fra_laws.proofs.Rounds.{Closed, rank-some}
+use Rattle.outcome.specs.Bytes.{allOnes}
+use Rattle.outcome.specs.Certificate.{roundsOrNever, entry, entries, chosen}
+use Rattle.table_laws.specs.Table.{row, positionAt}
+use Rattle.table_laws.proofs.Records.{at-member}
+use Rattle.table_laws.proofs.Rows.{row-length}
+use Rattle.table_laws.proofs.Search.{rising-at}
+use Rattle.table.specs.Places.{placeOf}
+use Rattle.table.specs.declared.Place.the-variants.{At}
+use Rattle.table.proofs.Places.{place-at}
+use Rattle.rank_laws.specs.Levels.{level, ranked}
+use Rattle.rank_laws.specs.Rows.{rows, roundsAt}
+use Rattle.rank_laws.specs.Winner.{winner, isFound}
+use Rattle.rank_laws.proofs.Levels.{level-judges, level-step, level-zero, level-final, ranked-step, ranked-bound}
+use Rattle.rank_laws.proofs.Rows.{flatMap-same, partly, partly-room, partly-position, partly-rounds, partly-positions, partly-here, partly-next}
+use Rattle.rank_laws.proofs.Winners.{chosen-winner, winner-same}
+use Rattle.wins.specs.declared.Win.{Win}
+use Rattle.wins.specs.declared.Win.the-variants.{By, Nobody}
+use Rattle.wins.specs.Judgement.{Searchable, lostBefore}
+use Rattle.wins.specs.Wins.{winOf}
+use Rattle.rank.specs.Passes.{Begins, gains, markedIf}
+
+-- ── One entry, by the table's bytes ──
+
+abbrev pub isWin : Win → Bool
+isWin (By a) = true
+isWin Nobody = false
+
+found-is : (o : Option Attack) → isWin (winOf o) ≡ isFound o
+found-is none = refl
+found-is (some a) = refl
+
+module _ (table : List ℕ) (n : ℕ) (t : Task) (k i : ℕ) where
+  pub gains-nothing : (roundsAt table i ≡ allOnes → ⊥) → gains table n t k i ≡ false
+  unfolding gains
+  gains-nothing d = rw (ne-eqb (roundsAt table i) allOnes d)
+
+  pub gains-by : {p : Position} {w : Win} → roundsAt table i ≡ allOnes → p ≡ positionAt table i
+      → w ≡ winOf (winner bisimulation t (lostBefore table n k) p)
+      → gains table n t k i ≡ isWin w
+  unfolding gains
+  gains-by e d h = rw (h, d, e) (sym (found-is (winner bisimulation t (lostBefore table n k) (positionAt table i))))
+
+-- ── Looking up in a rising list ──
+
+member-place : {A : Type 0} {x : A} {l : List A} (z : A) → x ∈ l → (j : ℕ) × (j < length l) × (getD l j z ≡ x)
+member-place z (List·Memᴰ·head {x = y} {xs = ys} e) = (0, omega arith, sym e)
+member-place z (List·Memᴰ·tail {x = y} {xs = ys} m) = let (j, b, e) = member-place z m in (suc j, omega arith, e)
+
+-- a member of a rising list is looked up at its place
+place-member : (l : List Position) → Rising l → (j : ℕ) (z : Position) → j < length l → placeOf (getD l j z) l ≡ At j
+place-member l rises j z b =
+    place-at (getD l j z) l j z b refl
+    (λ i c e.
+    not-both _ (rising-at l i j z rises c b)
+    (rw e (before-irreflexive (getD l j z))))
+
+-- ── Whether a test passes in a list, place by place ──
+
+-- m says whether it passed before place i, and next whether it passed before i + 1
+pub any-next : {A : Type 0} (f : A → Bool) (l : List A) (i : ℕ) (z : A) (m next : Bool) → i < length l
+    → next ≡ m || f (getD l i z) → any f l ≡ m || any f (drop i l) → any f l ≡ next || any f (drop (i + 1) l)
+unfolding any
+any-next f l i z m next b e h =
+    h ∙ rw (e, add-one, drop-cons l i z b) (sym (or-assoc m (f (getD l i z)) (any f (drop (suc i) l))))
+
+pub any-end : {A : Type 0} (f : A → Bool) (l : List A) (m : Bool) → any f l ≡ m || any f (drop (length l) l) → m ≡ any f l
+unfolding any
+any-end f l m h = sym (h ∙ rw (drop-of-length-le l (le-refl (length l))) (or-false m))
+
+-- ── A table with two levels ──
+
+level-small : (t : Task) (k : ℕ) (p : Position) → k < allOnes → level bisimulation t k p < 2 ^ 32
+unfolding level
+level-small t k p b = step (rank bisimulation t k p) refl
+  where
+    step : (o : Option ℕ) → rank bisimulation t k p ≡ o → roundsOrNever (rank bisimulation t k p) < 2 ^ 32
+    step none e = rw e (omega arith)
+    step (some j) e = rw e (omega (arith, rank-some bisimulation t k p j e .1))
+
+module _ {t : Task} (valid : Valid 6 t) where
+  six : (p : Position) → p ∈ reached bisimulation t → length (p .partners) ≡ 6
+  six p m = legal-facts 6 t p (reached-legal valid bisimulation p m) .long
+
+module _ {t : Task} (valid : Valid 6 t) (rest : List ℕ) where
+  abbrev l : List Position
+  l = reached bisimulation t
+
+  module _ (f h : Position → ℕ) (i : ℕ) where
+    pub partly-searchable : Searchable (length l) (partly f h l rest i)
+    partly-searchable =
+        record {
+          room = omega (arith, partly-room f h l rest (six valid) i);
+          rising = rw (partly-positions f h l rest (six valid) i) (reached-rising valid bisimulation);
+        }
+
+  module _ (k i : ℕ) (small : suc k < allOnes) where
+    abbrev table : List ℕ
+    table = partly (level bisimulation t (suc k)) (level bisimulation t k) l rest i
+
+    -- it judges positions reached rightly
+    judges : (q : Position) → q ∈ l → lostBefore table (length l) (suc k) q ≡ lostWithin bisimulation t k q
+    unfolding lostBefore
+    judges q m =
+        let (j, b, e) = member-place q m in
+        rw (partly-positions (level bisimulation t (suc k)) (level bisimulation t k) l rest (six valid) i, ← e)
+        (rw (place-member l (reached-rising valid bisimulation) j q b)
+        (⊎-elim (λ d. rw d (level-judges bisimulation t k (suc k) (getD l j q) (omega arith) (omega arith)))
+        (λ d. rw d (level-judges bisimulation t k k (getD l j q) (omega arith) (omega arith)))
+        (partly-rounds (level bisimulation t (suc k)) (level bisimulation t k) l rest (six valid) i j q b
+        (level-small t (suc k) (getD l j q) (omega arith))
+        (level-small t k (getD l j q) (omega arith)))))
+
+    -- entry i gains rounds exactly if its position has rank k + 1
+    module _ (z : Position) (b : i < length l) where
+      abbrev p : Position
+      p = getD l i z
+
+      won : winner bisimulation t (lostBefore table (length l) (suc k)) p ≡ chosen bisimulation t k p
+      won =
+          winner-same bisimulation t (lostBefore table (length l) (suc k)) (lostWithin bisimulation t k) p
+          (λ a m j r. judges (after t p a j) (reached-after valid bisimulation p a j (at-member l i z b) m r))
+          ∙ sym (chosen-winner bisimulation t k p)
+
+      gains-rank : gains table (length l) t (suc k) i ≡ ranked bisimulation t (suc k) p
+      unfolding gains
+      gains-rank =
+          rw (
+            partly-here (level bisimulation t (suc k)) (level bisimulation t k) l rest (six valid) i z b (level-small t k p (omega arith)),
+            partly-position (level bisimulation t (suc k)) (level bisimulation t k) l rest (six valid) i i z b,
+            won,
+          )
+          (sym (ranked-step bisimulation t k p small))
+
+      -- so it has its new level then
+      gains-next : markedIf (gains table (length l) t (suc k) i) table i (suc k)
+          ≡ partly (level bisimulation t (suc k)) (level bisimulation t k) l rest (suc i)
+      gains-next =
+          rw gains-rank
+          (partly-next (level bisimulation t (suc k)) (level bisimulation t k) l rest (six valid) i z b (ranked bisimulation t (suc k) p) (suc k)
+          (level-step bisimulation t k p))
+
+  -- the same of pass k, from pass 1 on
+  pub pass-gains : (n k i : ℕ) {table : List ℕ} (z : Position) → n ≡ length l → 1 ≤ k → k < allOnes → i < n
+      → table ≡ partly (level bisimulation t k) (level bisimulation t (k - 1)) l rest i
+      → gains table n t k i ≡ ranked bisimulation t k (getD l i z)
+  pass-gains n k i z d a small b e =
+      let s : suc (k - 1) ≡ k = omega arith in
+      rw (e, d) (rw s at (gains-rank (k - 1) i (omega arith) z (omega arith)))
+
+  pub pass-next : (n k i : ℕ) {table : List ℕ} (z : Position) → n ≡ length l → 1 ≤ k → k < allOnes → i < n
+      → table ≡ partly (level bisimulation t k) (level bisimulation t (k - 1)) l rest i
+      → markedIf (gains table n t k i) table i k ≡ partly (level bisimulation t k) (level bisimulation t (k - 1)) l rest (i + 1)
+  pass-next n k i z d a small b e =
+      let s : suc (k - 1) ≡ k = omega arith in
+      rw (e, d, add-one) (rw s at (gains-next (k - 1) i (omega arith) z (omega arith)))
+
+  -- ── Pass 0 ──
+
+  pub zero-next : (i : ℕ) (z : Position) → i < length l
+      → markedIf (lostAtOnce bisimulation t (positionAt (partly (level bisimulation t 0) (λ p. allOnes) l rest i) i))
+      (partly (level bisimulation t 0) (λ p. allOnes) l rest i)
+      i
+      0
+      ≡ partly (level bisimulation t 0) (λ p. allOnes) l rest (suc i)
+  zero-next i z b =
+      rw (partly-position (level bisimulation t 0) (λ p. allOnes) l rest (six valid) i i z b)
+      (partly-next (level bisimulation t 0) (λ p. allOnes) l rest (six valid) i z b (lostAtOnce bisimulation t (getD l i z)) 0
+      (level-zero bisimulation t (getD l i z)))
+
+-- ── What passes leave ──
+
+module _ {t : Task} (valid : Valid 6 t) where
+  closed : Closed bisimulation t (reached bisimulation t)
+  closed p m a i k r = reached-after valid bisimulation p a k m i r
+
+  abbrev reachable : List Position
+  reachable = reached bisimulation t
+
+  -- the table after a pass begins with the same positions, and its other bytes are as they were
+  module _ (f : Position → ℕ) (n : ℕ) (rest : List ℕ) {table : List ℕ} (counted : n ≡ length reachable) (e : table ≡ rows f reachable ++ rest) where
+    pub pass-rest : drop (n * 12) table ≡ rest
+    unfolding rows
+    pass-rest =
+        rw e
+        (drop-at (rows f reachable) rest (n * 12)
+        (flatMap-length (λ p. row p (f p)) reachable 12 (λ p m. row-length p (f p) (six valid p m)) ∙ rw counted))
+
+    pub pass-begins : Begins t f n table
+    pass-begins = record { counted = counted; begins = rw pass-rest e }
+
+  -- a pass from 1 on that marks an entry is one of as many as there are positions
+  pub pass-bound : (k : ℕ) → k < allOnes → any (ranked bisimulation t k) reachable ≡ true → k ≤ length reachable
+  pass-bound = ranked-bound bisimulation t reachable closed
+
+  -- one that marks none leaves the rounds of each position
+  pub pass-final : (k : ℕ) → 1 ≤ k → any (ranked bisimulation t k) reachable ≡ false
+      → rows (level bisimulation t k) reachable ≡ entries bisimulation t
+  unfolding rows entries entry row level
+  pass-final k b e =
+      let s : suc (k - 1) ≡ k = omega arith in
+      flatMap-same _ _ reachable
+      (λ p m. ap (row p) ((rw s at (level-final bisimulation t reachable closed (k - 1) (rw s e))) p m))

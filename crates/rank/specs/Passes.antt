@@ -1,0 +1,30 @@
+-- What passes over the table do to it.
+use Prim.Native.Nat.{ℕ, _+_, _*_}
+use mathlib.Core.Path.{_≡_}
+use mathlib.Core.Bool.{Bool, cond, _&&_}
+use mathlib.Core.List.{List, _++_}
+use lib.ListN.{length, drop}
+use lib.Dec.{eqb}
+use Rattle.fra.specs.Rules.{bisimulation}
+use Rattle.fra.specs.Reach.{reached}
+use Rattle.fra.specs.declared.Position.{Position}
+use Rattle.fra.specs.declared.Task.{Task}
+use Rattle.outcome.specs.Bytes.{allOnes}
+use Rattle.table_laws.specs.Table.{putWord, positionAt}
+use Rattle.rank_laws.specs.Rows.{rows, roundsAt}
+use Rattle.rank_laws.specs.Winner.{winner, isFound}
+use Rattle.wins.specs.Judgement.{lostBefore}
+
+-- the table begins with the n positions reached, with these rounds
+pub record Begins (t : Task) (rounds : Position → ℕ) (n : ℕ) (table : List ℕ) : Type 0 where
+  pub counted : n ≡ length (reached bisimulation t)
+  pub begins : table ≡ rows rounds (reached bisimulation t) ++ drop (n * 12) table
+
+-- entry i has no rounds yet, and an attack wins by positions that the table has with fewer rounds than k
+unfoldable pub gains : List ℕ → ℕ → Task → ℕ → ℕ → Bool
+gains table n t k i =
+    eqb (roundsAt table i) allOnes && isFound (winner bisimulation t (lostBefore table n k) (positionAt table i))
+
+-- the table with rounds k at entry i where a test passes
+abbrev pub markedIf : Bool → List ℕ → ℕ → ℕ → List ℕ
+markedIf test table i k = cond test (putWord table (i * 12 + 8) k) table

@@ -1,0 +1,98 @@
+// Ranks by passes over the sorted table in its final layout: after pass k an entry's rounds are exact if at most k, else
+// FF FF FF FF. A reply counts as lost in pass k if its rounds are fewer than k, so marks of the same pass do not count.
+use attacks::lost_at_once;
+use fra::Task;
+use table::position_at;
+use table::put_word;
+use table::word_at;
+use wins::Win;
+use wins::first_win;
+ghost use Prim.Native.Nat.{_+_, _*_, _-_, _≤_, _<_};
+ghost use mathlib.Core.Path.{_≡_};
+ghost use mathlib.Core.List.{_++_};
+ghost use lib.ListN.{length, drop};
+ghost use Rattle.fra.specs.Lists.{any};
+ghost use Rattle.fra.specs.Rules.{bisimulation};
+ghost use Rattle.fra.specs.Game.{lostAtOnce};
+ghost use Rattle.fra.specs.Reach.{reached};
+ghost use Rattle.fra.specs.Valid.{Valid};
+ghost use Rattle.outcome.specs.Bytes.{allOnes};
+ghost use Rattle.outcome.specs.Certificate.{entries};
+ghost use Rattle.table_laws.specs.Table.{positionAt};
+ghost use Rattle.rank_laws.specs.Levels.{level, ranked};
+ghost use Rattle.rank_laws.specs.Rows.{rows};
+ghost use Rattle.wins.specs.Judgement.{Searchable};
+ghost use Rattle.rank.specs.Passes.{Begins, gains, markedIf};
+
+// Pass 0 at entry i.
+fn mark_at_once(table: &mut [u8], t: Task, i: usize)
+    requires { ⌜ i * 12 + 12 ≤ length (now table) ⌝ }
+    ensures { λ _. ⌜ now (table .exit) ≡ markedIf (lostAtOnce bisimulation t (positionAt (now (table .entry)) i)) (now (table .entry)) i 0 ⌝ }
+{
+    if lost_at_once(t, position_at(table, i)) {
+        put_word(table, i * 12 + 8, 0);
+    }
+}
+
+// Pass 0: rounds 0 where the end marks differ.
+fn pass_zero(table: &mut [u8], n: usize, t: Task)
+    requires { ⌜ Begins t (λ p. allOnes) n (now table) ⌝ }
+    requires { ⌜ Valid 6 t ⌝ }
+    ensures { λ _. ⌜ now (table .exit) ≡ rows (level bisimulation t 0) (reached bisimulation t) ++ drop (n * 12) (now (table .entry)) ⌝ }
+{
+    let mut i = 0;
+    while i < n {
+        mark_at_once(table, t, i);
+        i += 1;
+    }
+}
+
+// Pass k at entry i; the answer is whether the entry was marked.
+fn mark(table: &mut [u8], n: usize, t: Task, k: u32, i: usize) -> bool
+    requires { ⌜ Searchable n (now table) ⌝ }
+    requires { ⌜ Valid 6 t ⌝ }
+    requires { ⌜ i < n ⌝ }
+    ensures { λ r. ⌜ r ≡ gains (now (table .entry)) n t k i ⌝ }
+    ensures { λ r. ⌜ now (table .exit) ≡ markedIf (gains (now (table .entry)) n t k i) (now (table .entry)) i k ⌝ }
+{
+    if word_at(table, i * 12 + 8) != 4294967295 {
+        return false;
+    }
+    let win = first_win(table, n, t, position_at(table, i), k);
+    let Win::By(_) = win else {
+        return false;
+    };
+    put_word(table, i * 12 + 8, k);
+    true
+}
+
+// Pass k: rounds k where an attack wins by positions of fewer rounds; the answer is whether an entry was marked.
+fn pass(table: &mut [u8], n: usize, t: Task, k: u32) -> bool
+    requires { ⌜ (1 ≤ k) × (k < allOnes) × Begins t (level bisimulation t (k - 1)) n (now table) ⌝ }
+    requires { ⌜ Valid 6 t ⌝ }
+    ensures { λ r. ⌜ r ≡ any (ranked bisimulation t k) (reached bisimulation t) ⌝ }
+    ensures { λ r. ⌜ now (table .exit) ≡ rows (level bisimulation t k) (reached bisimulation t) ++ drop (n * 12) (now (table .entry)) ⌝ }
+{
+    let mut marked = false;
+    let mut i = 0;
+    while i < n {
+        if mark(table, n, t, k, i) {
+            marked = true;
+        }
+        i += 1;
+    }
+    marked
+}
+
+// Gives the n positions reached, which the table begins with, their rounds.
+pub fn rank(table: &mut [u8], n: usize, t: Task)
+    requires { ⌜ Begins t (λ p. allOnes) n (now table) ⌝ }
+    requires { ⌜ Valid 6 t ⌝ }
+    ensures { λ _. ⌜ now (table .exit) ≡ entries bisimulation t ++ drop (n * 12) (now (table .entry)) ⌝ }
+{
+    pass_zero(table, n, t);
+    let mut k: u32 = 1;
+    while pass(table, n, t, k) {
+        k += 1;
+    }
+}

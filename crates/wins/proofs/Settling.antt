@@ -1,0 +1,143 @@
+-- The candidates of a fan that answer a challenge, found one after another; and what it says of an attack that all of them lead
+-- to lost positions. Assumes nothing.
+use Prim.Native.Nat.{ℕ, _-_, _≤_, _<_}
+use mathlib.Core.Path.{_≡_, refl, sym, _∙_, ap}
+use mathlib.Core.Bool.{Bool, true, _&&_}
+use mathlib.Core.List.{List, [], _∷_, map}
+use mathlib.Core.Option.{Option, none, some}
+use native.Mathlib.Omega.{arith}
+use lib.ListN.{length, getD, drop, length-map, List·getD-map}
+use lib.Seq.{ext-getD}
+use Rattle.fra.specs.Lists.{all, count, least}
+use Rattle.fra.specs.Model.{noEdge}
+use Rattle.fra.specs.Game.{replies}
+use Rattle.fra.specs.declared.Model.{Model}
+use Rattle.fra.specs.declared.Position.{Position}
+use Rattle.fra.specs.declared.Task.{Task}
+use Rattle.fra.specs.declared.Attack.{Attack}
+use Rattle.moves.proofs.Lists.{keep-map}
+use Rattle.moves.proofs.Searches.{least-same, test, KeptFrom, kept-from}
+use Rattle.replies.specs.Fan.{candidateFor, candidateOf, candidateAt}
+use Rattle.replies.specs.Search.{challengeOf, isAnswer, afterReply, replyAnswer, replyFrom}
+use Rattle.replies.specs.declared.fan.Candidate.{Candidate}
+use Rattle.replies.specs.declared.search.Challenge.{Challenge}
+use Rattle.replies.specs.declared.search.Reply.the-variants.{To, Missing}
+use Rattle.replies.specs.declared.search.Found.{Found}
+use Rattle.replies.proofs.Fans.{Holds}
+use Rattle.replies.proofs.Replies.{answersFrom, replier, attackFan, all-replies, after-is}
+use Rattle.rank_laws.specs.Winner.{winsBy}
+use Rattle.rank_laws.proofs.Winners.{all-same}
+use Rattle.table_laws.proofs.Tables.{places-length, places-at}
+use Rattle.wins.specs.Wins.{candidates, answering, settles}
+
+module _ (bytes : List ℕ) (n : ℕ) (c : Challenge) where
+  abbrev none-there : Candidate
+  none-there = candidateFor 0 noEdge 0
+
+  abbrev answers : Candidate → Bool
+  answers x = isAnswer c (x .kind)
+
+  -- the candidates from place i on that answer
+  abbrev pub answersAt : ℕ → List Candidate
+  answersAt i = answering c (drop i (candidates bytes n))
+
+  candidates-length : length (candidates bytes n) ≡ n
+  unfolding candidates
+  candidates-length = places-length (candidateAt bytes) n
+
+  candidates-at : (j : ℕ) → j < n → getD (candidates bytes n) j none-there ≡ candidateAt bytes j
+  unfolding candidates
+  candidates-at j h = places-at (candidateAt bytes) n j none-there h
+
+  answers-kept : (i : ℕ)
+      → KeptFrom answers (candidates bytes n) none-there i (least (λ j. isAnswer c (candidateAt bytes j .kind)) i (n - i))
+  answers-kept i =
+      rw (
+        candidates-length,
+        least-same (test answers (candidates bytes n) none-there) (λ j. isAnswer c (candidateAt bytes j .kind)) i (n - i)
+            (λ j p q. rw (candidates-at j (omega arith))),
+      ) at
+      (kept-from answers (candidates bytes n) none-there i)
+
+  -- a search that found a reply: the first candidate that answers, where it leads, and those that follow
+  pub record NextAnswer (i : ℕ) (f : Found) : Type 0 where
+    pub candidate : Candidate
+    pub position : f .position ≡ afterReply c (candidate .target)
+    pub first : answersAt i ≡ candidate ∷ answersAt (f .next)
+
+  module _ (i : ℕ) (f : Found) (e : f ≡ replyFrom bytes n i c) where
+    abbrev place : Option ℕ
+    place = least (λ j. isAnswer c (candidateAt bytes j .kind)) i (n - i)
+
+    pub answer-found : (q : ℕ) → f .reply ≡ To q → NextAnswer i f
+    unfolding replyFrom replyAnswer
+    answer-found q r = step place (answers-kept i) e
+      where
+        step : (o : Option ℕ) → KeptFrom answers (candidates bytes n) none-there i o → f ≡ replyAnswer bytes n c o → NextAnswer i f
+        step none k d =
+            let m : Missing ≡ To q = ap (λ (f : Found). f .reply) (sym d) ∙ r in
+            let z : _≡_ {A = ℕ} 0 1 = cc in
+            absurd (omega arith)
+        step (some j) k d =
+            record {
+              candidate = candidateAt bytes j;
+              position = ap (λ (f : Found). f .position) d;
+              first = rw (ap (λ (f : Found). f .next) d, ← candidates-at j (omega (arith, k .0, candidates-length))) (k .1);
+            }
+
+    -- and no reply: none is left
+    pub answer-missing : f .reply ≡ Missing → answersAt i ≡ []
+    unfolding replyFrom replyAnswer
+    answer-missing r = step place (answers-kept i) e
+      where
+        step : (o : Option ℕ) → KeptFrom answers (candidates bytes n) none-there i o → f ≡ replyAnswer bytes n c o → answersAt i ≡ []
+        step none k d = k
+        step (some j) k d =
+            let m : To (candidateAt bytes j .target .state) ≡ Missing = ap (λ (f : Found). f .reply) (sym d) ∙ r in
+            let z : _≡_ {A = ℕ} 0 1 = cc in
+            absurd (omega arith)
+
+  -- what is left to settle from place i on
+  module _ (lost : Position → Bool) (i : ℕ) where
+    abbrev left : ℕ → Bool
+    left j = settles lost c (drop j (candidates bytes n))
+
+    pub settles-none : answersAt i ≡ [] → left i ≡ true
+    unfolding settles all
+    settles-none e = rw e
+
+    pub settles-next : {f : Found} → NextAnswer i f → left i ≡ lost (f .position) && left (f .next)
+    unfolding settles all
+    settles-next h = rw (h .first, h .position)
+
+-- ── What it says of an attack ──
+
+all-map : {A B : Type 0} (f : B → Bool) (g : A → B) (l : List A) → all f (map g l) ≡ all (λ x. f (g x)) l
+unfolding all
+all-map f g [] = refl
+all-map f g (x ∷ l) = rw (all-map f g l)
+
+candidates-held : {m : Model} {ks bytes : List ℕ} {n : ℕ} → Holds m ks n bytes → candidates bytes n ≡ map (candidateOf m) ks
+unfolding candidates
+candidates-held {m} {ks} {bytes} {n} h =
+    ext-getD (candidateOf m 0) (map (candidateAt bytes) (count 0 n)) (map (candidateOf m) ks)
+    (places-length (candidateAt bytes) n ∙ h .counted ∙ sym (length-map ks (candidateOf m)))
+    (λ j b.
+    let c : j < n = omega (arith, places-length (candidateAt bytes) n) in
+    places-at (candidateAt bytes) n j (candidateOf m 0) c ∙ h .reads j c ∙ sym (List·getD-map (candidateOf m) ks j 0))
+
+-- where the fan is that of the attack's edge, it is what the game says of the attack
+pub settles-wins : (t : Task) (lost : Position → Bool) (p : Position) (a : Attack) (bytes : List ℕ) (n : ℕ)
+    → replier t p a .«edge_count» ≤ length (replier t p a .edges)
+    → Holds (replier t p a) (attackFan t p a) n bytes
+    → settles lost (challengeOf t p a) (candidates bytes n) ≡ winsBy t lost p a
+unfolding settles winsBy
+settles-wins t lost p a bytes n room h =
+    let m = replier t p a in
+    let ks = attackFan t p a in
+    let c = challengeOf t p a in
+    rw (candidates-held h)
+    (rw (keep-map (λ x. isAnswer c (x .kind)) (candidateOf m) ks)
+    (all-map _ (candidateOf m) (answersFrom m c ks 0)
+    ∙ rw (all-replies t p a room)
+    (all-same _ _ (replies t p a) (λ k i. ap lost (after-is t p a k)))))

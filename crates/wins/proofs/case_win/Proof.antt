@@ -1,0 +1,116 @@
+-- `wins::case_win` meets its contract. The loop's invariant: the first case that wins is the first from number `from` on.
+-- The measure is how many cases are left. Assumes nothing.
+use mathlib.Core.Path.{_≡_, refl, sym, _∙_}
+use native.Mathlib.Omega.{arith}
+use lib.ListN.{length}
+use borrow.Author.Needs.{needs}
+use Rattle.moves.proofs.IdCases.{casesFrom, NextCase, case-found, no-case}
+use Rattle.wins.specs.Judgement.{lostBefore}
+use Rattle.wins.specs.Wins.{candidates, settles, caseWinner}
+use Rattle.replies.specs.Search.{inCase}
+use Rattle.wins.proofs.Winning.{no-case-wins, case-wins, case-fails}
+use Rattle.wins.proofs.case_win.Statement.{statement}
+use Rattle.wins.proofs.case_win.Tie as tie
+
+abbrev Inv-loop : tie.InvT-loop
+Inv-loop table n k fan count challenge kind others e p side from₀ from =
+    caseWinner (lostBefore table n k) (candidates fan count) challenge kind others 0
+    ≡ caseWinner (lostBefore table n k) (candidates fan count) challenge kind others from
+
+abbrev μ-loop : tie.MeasureT-loop
+μ-loop table n k fan count challenge kind others e p side from₀ from = length (casesFrom others p side kind from)
+
+-- the case that was found is the next one
+next : (c : tie.After-known-told Inv-loop μ-loop)
+    → NextCase (c .before .before .before .before .before .before .before .args .others)
+    (c .before .before .before .before .before .before .before .args .challenge .position)
+    (c .before .before .before .before .before .before .before .args .challenge .side)
+    (c .before .before .before .before .before .before .before .args .kind)
+    (c .before .before .before .before .loop .from)
+    (c .before .found .given .0 .0)
+    (c .before .found .given .0 .1 .0)
+next c =
+    let searched = c .before .before .before in
+    let a = searched .before .before .before .before .args in
+    case-found (a .others) (a .challenge .position) (a .challenge .side) (a .kind) (searched .before .loop .from) _ _
+    (sym (searched .next-case .ensures) ∙ c .before .found .given .1)
+
+-- whether it wins
+settled-is : (c : tie.After-settled Inv-loop μ-loop)
+    → settles
+    (lostBefore (c .before .before .before .before .before .before .before .before .before .args .table .now)
+    (c .before .before .before .before .before .before .before .before .before .args .n)
+    (c .before .before .before .before .before .before .before .before .before .args .k))
+    (inCase (c .before .before .before .before .before .before .before .before .before .args .challenge)
+    (c .before .before .before .found .given .0 .0))
+    (candidates (c .before .before .before .before .before .before .before .before .before .args .fan .now)
+    (c .before .before .before .before .before .before .before .before .before .args .count))
+    ≡ c .settled .result
+settled-is c = rw (← c .before .in-case .ensures) (sym (c .settled .ensures))
+
+loop-holds : tie.Need-loop-holds Inv-loop μ-loop
+loop-holds c = refl
+
+next-case-requires : tie.Need-next-case-requires Inv-loop μ-loop
+next-case-requires c κs = search needs
+
+enum-known-found : tie.Need-enum-known-found Inv-loop μ-loop
+enum-known-found c = search needs
+
+enum-told : tie.Need-enum-told Inv-loop μ-loop
+enum-told c = search needs
+
+returns : tie.Need-returns Inv-loop μ-loop
+returns c =
+    let searched = c .before .before in
+    let a = searched .before .before .before .before .args in
+    let none-left = no-case (a .others) (a .challenge .position) (a .challenge .side) (a .kind) (searched .before .loop .from)
+    (sym (searched .next-case .ensures) ∙ c .enum-told .given .1) in
+    rw (searched .before .loop .inv ∙ no-case-wins _ _ (a .challenge) (a .kind) (a .others) (searched .before .loop .from) none-left)
+
+in-case-requires : tie.Need-in-case-requires Inv-loop μ-loop
+in-case-requires c κs = search needs
+
+settled-requires : tie.Need-settled-requires Inv-loop μ-loop
+settled-requires c κs = search needs
+
+returns-2 : tie.Need-returns-2 Inv-loop μ-loop
+returns-2 c =
+    let found = c .before .before .before in
+    let here = found .before .before .before .before in
+    let a = here .before .before .before .args in
+    rw
+    (here .loop .inv
+    ∙ case-wins (lostBefore (a .table .now) (a .n) (a .k)) (candidates (a .fan .now) (a .count)) (a .challenge) (a .kind) (a .others)
+    (next found)
+    (settled-is (c .before) ∙ c .if1 .taken))
+
+loop-less : tie.Need-loop-less Inv-loop μ-loop
+loop-less c = rw (next (c .before .before .before) .first) (omega arith)
+
+loop-again : tie.Need-loop-again Inv-loop μ-loop
+loop-again c =
+    let found = c .before .before .before in
+    let here = found .before .before .before .before in
+    let a = here .before .before .before .args in
+    here .loop .inv
+    ∙ case-fails (lostBefore (a .table .now) (a .n) (a .k)) (candidates (a .fan .now) (a .count)) (a .challenge) (a .kind) (a .others)
+    (next found)
+    (settled-is (c .before) ∙ c .if1 .left)
+
+pub case-win-spec : {M : Type 1} → statement M
+case-win-spec =
+    tie.close
+    (tie.spec
+    Inv-loop
+    μ-loop
+    loop-holds
+    next-case-requires
+    enum-known-found
+    enum-told
+    returns
+    in-case-requires
+    settled-requires
+    returns-2
+    loop-less
+    loop-again)

@@ -1,0 +1,3 @@
+-- What the functions compute, in terms of the game and of the table's bytes.
+pub mod Judgement
+pub mod Wins

@@ -10,6 +10,7 @@ pub mod near;
 pub mod overwrites;
 pub mod proposals;
 pub mod quota;
+pub mod sweeps;
 
 use crate::model::Task;
 use crate::random::Random;

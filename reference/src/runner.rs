@@ -6,6 +6,7 @@ use crate::check::check;
 use crate::compare::{solve, Solution, ENTRY_LENGTH};
 use crate::frames::{reference_response, Request, Response};
 use crate::generate::proposals::{proposal, random_kind};
+use crate::generate::sweeps::Sweep;
 use crate::generate::{item, item_of_kind, Item, ItemKind};
 use crate::model::{Task, Verdict};
 use crate::partner::{run_program, Adapter, Watch};
@@ -56,6 +57,9 @@ pub struct Options {
     pub kind: Option<ItemKind>,
     /// This task in every case, not the seed's items.
     pub task: Option<Vec<u8>>,
+    /// All certificates of this sort that come of the given task's own one;
+    /// their number is the run's count.
+    pub sweep: Option<Sweep>,
     pub command: Vec<String>,
     /// The field to alter in the first answer that has it, from this item
     /// on.
@@ -110,7 +114,10 @@ impl Outcome {
     }
 }
 
-pub fn run(options: Options) -> Result<Outcome, String> {
+pub fn run(mut options: Options) -> Result<Outcome, String> {
+    if let Some(sweep) = options.sweep {
+        options.count = sweep.count(&own_certificate(&options)?) as u64;
+    }
     let watch = Watch::start(options.timeout);
     let partner = match options.operation {
         Operation::Program => Partner::Program(watch, options.command.clone()),
@@ -133,6 +140,15 @@ pub fn run(options: Options) -> Result<Outcome, String> {
     Ok(Outcome { cases, mismatches: runner.mismatches, missing, tally: runner.tally })
 }
 
+/// The certificate of the given task.
+fn own_certificate(options: &Options) -> Result<Vec<u8>, String> {
+    let task = options.task.as_ref().filter(|_| options.operation == Operation::Check);
+    let bytes = task.ok_or("--sweep is for check with --task")?;
+    let task =
+        task::read(bytes).map_err(|r| format!("--sweep: the task is refused with {}", r.0))?;
+    Ok(baseline::solve(&task).certificate)
+}
+
 impl Runner {
     /// False if the partner can give no more answers.
     fn one_case(&mut self, index: u64) -> bool {
@@ -143,7 +159,7 @@ impl Runner {
             (None, None) => item(seed, index),
         };
         let mut random = Random::for_item(seed ^ 0xca5e, index);
-        let (question, expected) = self.make_case(operation, &mut random, item);
+        let (question, expected) = self.make_case(index, &mut random, item);
         let mut given = self.ask(&question);
         let wanted =
             self.options.fault.as_ref().filter(|(_, from)| !self.fault_done && index >= *from);
@@ -164,18 +180,13 @@ impl Runner {
         }
     }
 
-    fn make_case(
-        &mut self,
-        operation: Operation,
-        random: &mut Random,
-        item: Item,
-    ) -> (Question, Reply) {
+    fn make_case(&mut self, index: u64, random: &mut Random, item: Item) -> (Question, Reply) {
         self.tally.add(format!("item:{}", item.kind.name()));
         self.tally.add_task_size(&item.bytes);
-        let question = match operation {
+        let question = match self.options.operation {
             Operation::Read => Question::Frame(Request::Read { task: item.bytes }),
             Operation::Compare => return self.compare_case(random, item.bytes),
-            Operation::Check => return self.check_case(random, item.bytes),
+            Operation::Check => return self.check_case(index, random, item.bytes),
             Operation::Program => return self.program_case(random, item.bytes),
         };
         let Question::Frame(request) = &question else { unreachable!() };
@@ -211,22 +222,18 @@ impl Runner {
         };
         if let Response::Compare { answer, .. } = &response {
             self.tally.add(format!("refusal:{}", answer.refusal));
+            self.tally.add(format!("answer:{}", verdict_name(answer.verdict)));
         }
         (Question::Frame(request), Reply::Frame(response))
     }
 
-    fn check_case(&mut self, random: &mut Random, task: Vec<u8>) -> (Question, Reply) {
-        let parsed = task::read(&task).ok();
-        let certificate = match &parsed {
-            None => {
+    fn check_case(&mut self, index: u64, random: &mut Random, task: Vec<u8>) -> (Question, Reply) {
+        let certificate = match task::read(&task) {
+            Err(_) => {
                 let length = random.below(40);
                 random.bytes(length)
             }
-            Some(parsed) => {
-                let kind = random_kind(random);
-                self.tally.add(format!("proposal:{}", kind.name()));
-                proposal(random, parsed, &self.solve(parsed), kind)
-            }
+            Ok(parsed) => self.proposed(index, random, &parsed),
         };
         let answer = check(&task, &certificate);
         self.tally.add(format!("refusal:{}", answer.refusal));
@@ -238,6 +245,16 @@ impl Runner {
         }
         let request = Request::Check { task, certificate };
         (Question::Frame(request), Reply::Frame(Response::Check(answer)))
+    }
+
+    fn proposed(&mut self, index: u64, random: &mut Random, task: &Task) -> Vec<u8> {
+        let solution = self.solve(task);
+        if let Some(sweep) = self.options.sweep {
+            return sweep.proposal(&solution.certificate, (index - self.options.first) as usize);
+        }
+        let kind = random_kind(random);
+        self.tally.add(format!("proposal:{}", kind.name()));
+        proposal(random, task, &solution, kind)
     }
 
     fn program_case(&mut self, random: &mut Random, mut task: Vec<u8>) -> (Question, Reply) {

@@ -1,5 +1,10 @@
 //! Answers the frames of the reference's differential runner (reference/README.md, "Frames") with what the proved code
-//! gives. A task is read by the program `read_task`, named as the first argument.
+//! gives. A task is read by the program `read_task`, named as the first argument; comparing and checking are calls of the
+//! static library.
+mod lent;
+
+use lent::Lent;
+use nuldopa::boundary::{self, Answer};
 use std::env;
 use std::io::{self, Read, Write};
 use std::process::{Command, Stdio};
@@ -17,7 +22,7 @@ fn string<'a>(bytes: &'a [u8], at: &mut usize) -> &'a [u8] {
 }
 
 fn put_number(out: &mut Vec<u8>, n: usize) {
-    out.extend((n as u32).to_le_bytes());
+    out.extend(u32::try_from(n).expect("four bytes hold it").to_le_bytes());
 }
 
 fn put_string(out: &mut Vec<u8>, s: &[u8]) {
@@ -72,16 +77,58 @@ fn read(program: &str, task: &[u8]) -> Vec<u8> {
     out
 }
 
+/// The frames number the verdicts 1 and 2 and the library by the kinds of their certificates, 16 and 17. No other number
+/// of the library's becomes one of the frames'.
+fn verdict(answer: &Answer) -> usize {
+    match answer.verdict {
+        0 => 0,
+        16 => 1,
+        17 => 2,
+        other => panic!("verdict {other}"),
+    }
+}
+
+fn compare(task: &[u8], table: &[u8], certificate: &[u8]) -> Vec<u8> {
+    let (mut table, mut certificate) = (Lent::new(table), Lent::new(certificate));
+    let answer = boundary::compare(task, table.bytes(), certificate.bytes());
+    let mut out = vec![2];
+    put_number(&mut out, answer.refusal as usize);
+    put_number(&mut out, verdict(&answer));
+    put_number(&mut out, answer.positions as usize);
+    put_number(&mut out, answer.rounds as usize);
+    put_number(&mut out, answer.length);
+    put_string(&mut out, table.returned());
+    put_string(&mut out, certificate.returned());
+    out
+}
+
+fn check(task: &[u8], certificate: &[u8]) -> Vec<u8> {
+    let answer = boundary::check(task, certificate);
+    // The frame has no place for these two, which the checker leaves 0.
+    assert_eq!((answer.positions, answer.length), (0, 0));
+    let mut out = vec![3];
+    put_number(&mut out, answer.refusal as usize);
+    put_number(&mut out, verdict(&answer));
+    put_number(&mut out, answer.rounds as usize);
+    out
+}
+
+fn answer(program: &str, payload: &[u8]) -> Vec<u8> {
+    let mut at = 1;
+    let mut next = || string(payload, &mut at);
+    match payload[0] {
+        1 => read(program, next()),
+        2 => compare(next(), next(), next()),
+        3 => check(next(), next()),
+        operation => panic!("no operation {operation}"),
+    }
+}
+
 fn main() {
     let program = env::args().nth(1).expect("the program read_task");
     while let Some(payload) = request() {
-        let mut at = 1;
-        let answer = match payload[0] {
-            1 => read(&program, string(&payload, &mut at)),
-            operation => panic!("no operation {operation}"),
-        };
         let mut frame = Vec::new();
-        put_string(&mut frame, &answer);
+        put_string(&mut frame, &answer(&program, &payload));
         io::stdout().write_all(&frame).unwrap();
         io::stdout().flush().unwrap();
     }

@@ -1,5 +1,6 @@
 //! The differential runner as a program.
 
+use reference::generate::sweeps::Sweep;
 use reference::generate::ItemKind;
 use reference::runner::{run, Operation, Options};
 use std::time::Duration;
@@ -11,6 +12,8 @@ OPERATION  read, compare or check: COMMAND is an adapter, started once
 options    --first N            number of the first item, default 0
            --kind KIND          items of one kind only
            --task FILE          this task in every case
+           --sweep SORT         check: every cut (cuts) or every other value of every byte
+                                (bytes) of the given task's own certificate
            --require KEY:COUNT  at least COUNT cases under KEY, as printed; repeatable
            --fault FIELD[:N]    alter FIELD in the first answer that has it, from item N on
            --save DIR           where mismatches are saved, default the current directory
@@ -70,6 +73,7 @@ fn options(arguments: &[String]) -> Result<Options, String> {
         first: 0,
         kind: None,
         task: None,
+        sweep: None,
         command: command.to_vec(),
         fault: None,
         required: Vec::new(),
@@ -90,6 +94,7 @@ fn options(arguments: &[String]) -> Result<Options, String> {
                     std::fs::read(value).map_err(|e| format!("cannot read {value}: {e}"))?;
                 options.task = Some(bytes);
             }
+            "--sweep" => options.sweep = Some(Sweep::from_name(value).ok_or(USAGE)?),
             "--require" => options.required.push(key_and_count(value)?),
             "--fault" => options.fault = Some(fault(operation, value)?),
             "--save" => options.save = value.into(),

@@ -12,6 +12,8 @@ pub const FAMILIES: &[(&str, &str, &str)] = &[
     ("ring-late", "S R", "ring-equal with an end mark on one state of each side; many rounds"),
     ("chain", "N", "N states in a row, end mark on the last of one side; N - 1 rounds"),
     ("rings", "A B", "rings of A and B states, A > B coprime; A + B - 2 rounds if A = B + 1"),
+    ("rings-fresh", "A B R", "rings with R registers held and globally fresh edges; large reach"),
+    ("exact", "N", "N positions exactly, where 15 looping states can add up to it; EQUAL"),
 ];
 
 pub fn family(name: &str, sizes: &[usize]) -> Result<Task, String> {
@@ -19,6 +21,7 @@ pub fn family(name: &str, sizes: &[usize]) -> Result<Task, String> {
         sizes.len() == limits.len()
             && sizes.iter().zip(limits).all(|(s, (low, high))| (low..=high).contains(&s))
     };
+    let none = || format!("no family {name} with sizes {sizes:?}");
     match name {
         "dearest" if fits(&[(0, 6)]) => Ok(dearest(sizes[0], false)),
         "dearest-equal" if fits(&[(0, 6)]) => Ok(dearest(sizes[0], true)),
@@ -27,7 +30,11 @@ pub fn family(name: &str, sizes: &[usize]) -> Result<Task, String> {
         "ring-late" if fits(&[(1, 16), (1, 6)]) => Ok(ring_late(sizes[0], sizes[1])),
         "chain" if fits(&[(1, 16)]) => Ok(chain(sizes[0])),
         "rings" if fits(&[(2, 16), (2, 16)]) => Ok(rings(sizes[0], sizes[1])),
-        _ => Err(format!("no family {name} with sizes {sizes:?}")),
+        "rings-fresh" if fits(&[(2, 16), (2, 16), (1, 6)]) => {
+            Ok(rings_fresh(sizes[0], sizes[1], sizes[2]))
+        }
+        "exact" if fits(&[(1, 20_000)]) => exact(sizes[0]).ok_or_else(none),
+        _ => Err(none()),
     }
 }
 
@@ -131,9 +138,56 @@ pub fn chain(states: usize) -> Task {
 /// is the most that two words of coprime periods A and B can agree on
 /// without being equal (Fine and Wilf).
 pub fn rings(long: usize, short: usize) -> Task {
-    let mut left = known_path(long, true);
-    let mut right = known_path(short, true);
-    left.states[(short - 1).min(long - 1)].end_mark = 1;
-    right.states[short - 1].end_mark = 1;
-    Task { left, right, pairs: vec![(1, 1)] }
+    let (left, right) = (known_path(long, true), known_path(short, true));
+    Task { pairs: vec![(1, 1)], ..marked_rings(left, right) }
+}
+
+/// The same rings, where each step writes one of several registers: as many
+/// rounds, with very many positions.
+fn rings_fresh(long: usize, short: usize, registers: usize) -> Task {
+    let ring = |states| ring_model(states, registers, Kind::GloballyFresh, |_| true);
+    marked_rings(ring(long), ring(short))
+}
+
+fn marked_rings(mut left: Model, mut right: Model) -> Task {
+    let marked = right.states.len() - 1;
+    let marked_left = marked.min(left.states.len() - 1);
+    left.states[marked_left].end_mark = 1;
+    right.states[marked].end_mark = 1;
+    Task { left, right, pairs: Vec::new() }
+}
+
+/// Positions reached by two equal states that hold 0 to 5 registers and have
+/// a fresh loop for each.
+const LOOPING: [usize; 6] = [1, 2, 7, 34, 209, 1546];
+
+/// A start state, from which a tag of its own leads to each of the states
+/// whose positions add up to the rest. None if these are too many.
+fn exact(positions: usize) -> Option<Task> {
+    let mut held = Vec::new();
+    let mut rest = positions - 1;
+    for registers in (0..LOOPING.len()).rev() {
+        held.extend(vec![registers; rest / LOOPING[registers]]);
+        rest %= LOOPING[registers];
+    }
+    let mut states = uniform_states(1, LOOPING.len() - 1);
+    let mut edges = Vec::new();
+    for (place, &registers) in held.iter().enumerate() {
+        let state = place as u8 + 1;
+        let edge = |from, tag, register| Edge {
+            from,
+            tag,
+            kind: Kind::GloballyFresh,
+            register,
+            to: state,
+        };
+        states.extend(uniform_states(1, registers));
+        // Register 6 is held by no state, so the way in pairs nothing.
+        edges.push(edge(0, state, 6));
+        edges.extend(first_registers(registers).into_iter().map(|r| edge(state, 0, r)));
+    }
+    let mut model = Model { registers: 6, start: 0, states, edges };
+    tidy(&mut model);
+    let fits = model.states.len() <= MAX_STATES && model.edges.len() <= MAX_EDGES;
+    fits.then(|| Task { left: model.clone(), right: model, pairs: Vec::new() })
 }

@@ -6,7 +6,7 @@ use crate::compare::{settle_from, Solution, NEVER_LOST};
 use crate::game::{attacks, replies, Attack, Position};
 use crate::model::*;
 use crate::random::Random;
-use std::collections::BTreeMap;
+use std::collections::{BTreeMap, BTreeSet};
 
 #[derive(Clone, Copy, PartialEq, Eq, PartialOrd, Ord, Debug)]
 pub enum ProposalKind {
@@ -18,6 +18,8 @@ pub enum ProposalKind {
     /// More positions than the comparer lists, and right.
     Larger,
     MoreRounds,
+    /// Positions whose end marks differ, lost by an attack instead; right.
+    MarkedLater,
     /// An attack that does not exist, or does not win.
     WrongAttack,
     /// Another winning attack than the first, and right.
@@ -31,7 +33,7 @@ pub enum ProposalKind {
 }
 
 impl ProposalKind {
-    pub const ALL: [ProposalKind; 14] = [
+    pub const ALL: [ProposalKind; 15] = [
         ProposalKind::Right,
         ProposalKind::ByteAltered,
         ProposalKind::Cut,
@@ -39,6 +41,7 @@ impl ProposalKind {
         ProposalKind::TwoKinds,
         ProposalKind::Larger,
         ProposalKind::MoreRounds,
+        ProposalKind::MarkedLater,
         ProposalKind::WrongAttack,
         ProposalKind::OtherAttack,
         ProposalKind::OtherVerdict,
@@ -57,6 +60,7 @@ impl ProposalKind {
             "two-kinds",
             "larger",
             "more-rounds",
+            "marked-later",
             "wrong-attack",
             "other-attack",
             "other-verdict",
@@ -70,7 +74,7 @@ impl ProposalKind {
     /// Whether the checker has to accept what is made under this name.
     pub fn is_right(self) -> bool {
         use ProposalKind::*;
-        matches!(self, Right | Larger | MoreRounds | OtherAttack)
+        matches!(self, Right | Larger | MoreRounds | MarkedLater | OtherAttack)
     }
 }
 
@@ -114,6 +118,7 @@ pub fn proposal(
         ProposalKind::TwoKinds => two_kinds(random, right),
         ProposalKind::Larger => larger(random, task, solution),
         ProposalKind::MoreRounds => more_rounds(random, task, solution),
+        ProposalKind::MarkedLater => marked_later(random, task, solution),
         ProposalKind::WrongAttack => wrong_attack(random, right),
         ProposalKind::OtherAttack => match solution.verdict {
             Verdict::Equal => larger(random, task, solution),
@@ -257,11 +262,53 @@ fn more_rounds(random: &mut Random, task: &Task, solution: &Solution) -> Vec<u8>
     }
     let mut list = other_attacks(random, task, &solution.entries);
     let factor = random.between(1, 1000) as u32;
-    let offset = *random.pick(&[0, 1, 255, 65_536, u32::MAX - 1_000_000]);
+    // The last one gives the start, which has the most rounds, all ones.
+    let offset = *random.pick(&[0, 1, 255, 65_536, u32::MAX - solution.rounds * factor]);
     for (_, rounds) in list.values_mut().filter(|(_, rounds)| *rounds > 0) {
         *rounds = *rounds * factor + offset;
     }
     lost_bytes(&list)
+}
+
+/// Lists some positions whose end marks differ with an attack that wins.
+/// Their rounds and those of others rise by that; where the start could then
+/// not be listed, the right certificate comes back.
+fn marked_later(random: &mut Random, task: &Task, solution: &Solution) -> Vec<u8> {
+    let wanted = |position: &Position| !position.end_marks_differ(task) || random.chance(60);
+    let later: BTreeSet<Position> =
+        solution.entries.iter().map(|(p, _)| *p).filter(wanted).collect();
+    let list = lost_by_attack(task, &solution.entries, &later);
+    if solution.verdict == Verdict::Equal || !list.contains_key(&Position::start(task)) {
+        return solution.certificate.clone();
+    }
+    lost_bytes(&list)
+}
+
+/// All positions that are lost where those in `later` are lost by attacks
+/// alone, round after round.
+fn lost_by_attack(
+    task: &Task,
+    entries: &[(Position, u32)],
+    later: &BTreeSet<Position>,
+) -> LostList {
+    let at_once = entries.iter().filter(|(p, _)| !later.contains(p));
+    let mut list: LostList = at_once.map(|(p, _)| (*p, (None, 0))).collect();
+    for round in 1.. {
+        let wins = |p: &Position, a: &Attack| {
+            replies(task, p, *a).iter().all(|r| list.contains_key(&r.leads_to))
+        };
+        let lost_now: LostList = later
+            .iter()
+            .filter(|p| !list.contains_key(p))
+            .filter_map(|p| Some((*p, attacks(task, p).into_iter().find(|a| wins(p, a))?)))
+            .map(|(p, attack)| (p, (Some(attack), round)))
+            .collect();
+        if lost_now.is_empty() {
+            break;
+        }
+        list.extend(lost_now);
+    }
+    list
 }
 
 /// Changes side, edge, case or rounds of one record of an attack list.

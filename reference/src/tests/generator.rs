@@ -1,12 +1,19 @@
 //! The generator's quotas, and that they can be missed.
 
 use crate::Test;
+use reference::certificate::LOST_LENGTH;
+use reference::compare::solve;
+use reference::game::Position;
 use reference::generate::families::{family, FAMILIES};
-use reference::generate::proposals::ProposalKind;
+use reference::generate::proposals::{proposal, ProposalKind};
 use reference::generate::quota::*;
+use reference::generate::sweeps::Sweep;
 use reference::generate::*;
+use reference::model::{Task, Verdict};
+use reference::random::Random;
 use reference::tally::Tally;
 use reference::task::read;
+use std::collections::BTreeSet;
 
 pub const TESTS: &[Test] = &[
     ("generator: quotas in 20,000 items", quotas_are_met),
@@ -14,7 +21,10 @@ pub const TESTS: &[Test] = &[
     ("generator: the same seed gives the same items", repeatable),
     ("generator: undamaged items are valid", valid_items),
     ("generator: proposed certificates", proposed_certificates),
+    ("generator: end marks that differ are listed by attacks", marked_later),
+    ("generator: sweeps have every proposal once", sweeps),
     ("generator: families are valid", valid_families),
+    ("generator: families of a stated size", stated_sizes),
 ];
 
 fn quotas_are_met() {
@@ -78,6 +88,57 @@ fn proposed_certificates() {
     for often_wrong in [ByteAltered, Cut, WrongAttack, RecordMissing] {
         assert!(count(often_wrong, "refused-14") >= 50, "{}", often_wrong.name());
     }
+}
+
+/// Whether a list of kind 17 names a position whose end marks differ with
+/// rounds above 0.
+fn lists_marks_by_attack(task: &Task, certificate: &[u8]) -> bool {
+    certificate.chunks(LOST_LENGTH).any(|record| {
+        let position = Position::from_bytes(&record[1..9]);
+        position.end_marks_differ(task) && record[12..] != [0; 4]
+    })
+}
+
+fn marked_later() {
+    let mut met = 0;
+    for index in 0..3000 {
+        let Ok(task) = read(&item(9, index).bytes) else {
+            continue;
+        };
+        let solution = solve(&task);
+        let mut random = Random::for_item(9, index);
+        let made = proposal(&mut random, &task, &solution, ProposalKind::MarkedLater);
+        if solution.verdict == Verdict::Differ {
+            met += lists_marks_by_attack(&task, &made) as usize;
+        }
+    }
+    assert!(met >= 50, "{met}");
+}
+
+fn sweeps() {
+    let right: Vec<u8> = (0..20).collect();
+    for sweep in Sweep::ALL {
+        let made: BTreeSet<Vec<u8>> =
+            (0..sweep.count(&right)).map(|index| sweep.proposal(&right, index)).collect();
+        assert_eq!(made.len(), sweep.count(&right), "{}", sweep.name());
+        assert_eq!(made.contains(&right), sweep == Sweep::Cuts);
+    }
+    assert_eq!(Sweep::Cuts.count(&right), 21);
+    assert_eq!(Sweep::Bytes.count(&right), 20 * 255);
+}
+
+fn stated_sizes() {
+    let solved = |name, sizes: &[usize]| solve(&family(name, sizes).expect("a family"));
+    for positions in [1, 2, 3, 9, 210, 1547, 3999, 4000, 4001] {
+        let solution = solved("exact", &[positions]);
+        assert_eq!(solution.entries.len(), positions);
+        assert_eq!(solution.verdict, Verdict::Equal);
+    }
+    // 16 looping states and the start are one state too many.
+    assert!(family("exact", &[1040]).is_err());
+    let solution = solved("rings-fresh", &[5, 4, 2]);
+    assert_eq!((solution.verdict, solution.rounds), (Verdict::Differ, 7));
+    assert!(solution.entries.len() > 100);
 }
 
 fn valid_families() {

@@ -9,6 +9,7 @@ pub const TESTS: &[Test] = &[
     ("runner: adapter gives the same answers", same_answers),
     ("runner: program gives the same lines", same_lines),
     ("runner: a given task", given_task),
+    ("runner: every cut and every byte of a certificate", swept_certificate),
     ("runner: each altered answer is reported", faults),
     ("runner: a saved request can be asked again", saved_request),
     ("runner: a missing count is reported", missing_count),
@@ -48,6 +49,8 @@ fn same_answers() {
                 "refusal:11:50",
                 "refusal:12:50",
                 "verdict:EQUAL:300",
+                "answer:EQUAL:100",
+                "answer:DIFFER:100",
                 "rounds:15+:10",
                 "table:one-less:50",
                 "table:zero:50",
@@ -84,15 +87,41 @@ fn same_lines() {
     assert_eq!(status, Some(0), "{text}");
 }
 
-fn given_task() {
-    let task = reference::generate::families::family("dearest-equal", &[4]).expect("a family");
-    let file = built("given.task");
+/// The file name of a family's task.
+fn family_file(name: &str, sizes: &[usize]) -> String {
+    let task = reference::generate::families::family(name, sizes).expect("a family");
+    let file = built(&format!("{name}.task"));
     std::fs::write(&file, reference::task::write(&task)).expect("a file");
-    let name = file.to_string_lossy().into_owned();
+    file.to_string_lossy().into_owned()
+}
+
+fn given_task() {
+    let name = family_file("dearest-equal", &[4]);
     let arguments =
         ["compare", "--count", "40", "--task", &name, "--require", "positions:100-999:40"];
     let (status, text) = runner(&arguments, &[&built("reference-adapter")]);
     assert_eq!(status, Some(0), "{text}");
+}
+
+fn swept_certificate() {
+    // 3 rounds, so 4 records of 16 bytes.
+    let name = family_file("chain", &[4]);
+    for (sweep, cases, required) in [
+        ("cuts", 65, ["refusal:0:1", "refusal:14:4", "refusal:13:60"]),
+        ("bytes", 64 * 255, ["refusal:0:200", "refusal:14:4000", "refusal:13:2000"]),
+    ] {
+        let mut arguments = vec!["check", "--task", &name, "--sweep", sweep];
+        required.iter().for_each(|key| arguments.extend(["--require", key]));
+        let (status, text) = runner(&arguments, &[&built("reference-adapter")]);
+        assert_eq!(status, Some(0), "{text}");
+        assert!(text.contains(&format!("SAME: {cases} cases, ")), "{text}");
+    }
+    // It needs a task that is not refused, and certificates to check.
+    let without_task = ["check", "--sweep", "cuts"];
+    let comparing = ["compare", "--task", &name, "--sweep", "cuts"];
+    for arguments in [&without_task[..], &comparing] {
+        assert_eq!(runner(arguments, &[&built("reference-adapter")]).0, Some(2));
+    }
 }
 
 fn faults() {

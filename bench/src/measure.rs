@@ -1,0 +1,87 @@
+//! Measures one comparison in a process of its own, so that its peak of memory is its own too. Prints `name value` lines.
+//!
+//!     measure count TASK                    what the task takes, by the reference
+//!     measure library TASK ENTRIES LENGTH   nuldopa_compare with a table of ENTRIES entries and LENGTH bytes of certificate
+//!     measure baseline TASK                 the reference's heap baseline
+mod cost;
+mod pairs;
+
+use nuldopa::boundary;
+use reference::baseline;
+use reference::compare::{Solution, ENTRY_LENGTH};
+use reference::task;
+
+/// Short comparisons are repeated for as long as this, and the least time counts.
+const LEAST_SECONDS: f64 = 0.2;
+
+/// The least time of one call, in seconds on the processor.
+fn least_seconds(mut call: impl FnMut()) -> f64 {
+    let begin = cost::cpu_seconds();
+    let mut least = f64::INFINITY;
+    loop {
+        let before = cost::cpu_seconds();
+        call();
+        let after = cost::cpu_seconds();
+        least = least.min(after - before);
+        if after - begin >= LEAST_SECONDS {
+            return least;
+        }
+    }
+}
+
+/// FNV-1a, to tell whether two processes have the same bytes.
+fn digest(parts: [&[u8]; 2]) -> u64 {
+    let bytes = parts.into_iter().flatten();
+    bytes.fold(0xcbf2_9ce4_8422_2325, |hash, &byte| (hash ^ byte as u64).wrapping_mul(0x0100_0000_01b3))
+}
+
+fn solve(bytes: &[u8]) -> Solution {
+    baseline::solve(&task::read(bytes).expect("a task that is not refused"))
+}
+
+fn count(bytes: &[u8]) {
+    let solution = solve(bytes);
+    let mut table = vec![0; solution.entries.len() * ENTRY_LENGTH];
+    let mut certificate = vec![0; solution.certificate.len()];
+    solution.deliver(&mut table, &mut certificate);
+    let tried = pairs::tried(&task::read(bytes).expect("read before"), &solution.entries);
+    println!("positions {}", solution.entries.len());
+    println!("rounds {}", solution.rounds);
+    println!("length {}", certificate.len());
+    println!("passes {}", tried.passes);
+    println!("exploring {}", tried.exploring);
+    println!("ranking {}", tried.ranking);
+    println!("digest {:016x}", digest([&table, &certificate]));
+}
+
+fn library(bytes: &[u8], entries: usize, length: usize) {
+    // Not zeros, so that the system has handed the pages out before the first call.
+    let mut table = vec![1; entries * ENTRY_LENGTH];
+    let mut certificate = vec![1; length];
+    let seconds = least_seconds(|| {
+        let answer = boundary::compare(bytes, &mut table, &mut certificate);
+        assert_eq!(answer.refusal, 0);
+    });
+    println!("seconds {seconds:.9}");
+    println!("kilobytes {}", cost::peak_kilobytes());
+    println!("digest {:016x}", digest([&table, &certificate]));
+}
+
+fn heap(bytes: &[u8]) {
+    let seconds = least_seconds(|| assert!(!solve(bytes).certificate.is_empty()));
+    println!("seconds {seconds:.9}");
+    println!("kilobytes {}", cost::peak_kilobytes());
+}
+
+fn main() {
+    let arguments: Vec<String> = std::env::args().skip(1).collect();
+    let words: Vec<&str> = arguments.iter().map(|a| a.as_str()).collect();
+    let file = |name: &str| std::fs::read(name).expect("the task file");
+    let number = |text: &str| text.parse().expect("a number");
+    match words[..] {
+        ["count", name] => count(&file(name)),
+        ["library", name, entries, length] => library(&file(name), number(entries), number(length)),
+        ["baseline", name] => heap(&file(name)),
+        _ => panic!("measure count, library or baseline"),
+    }
+}

@@ -1,0 +1,171 @@
+//! Counts the pairs of edges that a comparison by passes tries, from the outside: by the reference's attacks and replies,
+//! and by the rounds that it found.
+//!
+//! - Exploring tries, at every position reached, each left edge with each right edge that starts there and has its tag.
+//! - Ranking goes over the positions in passes 1, 2 and so on, until a pass finds no further loss: one pass more than the
+//!   most rounds of a position that is lost. In pass k it takes the positions that are not lost in fewer than k rounds. At
+//!   each it tries attacks in order of side, edge and case, until one wins; and for an attack its replies by edge number,
+//!   until one leads to a position that is not lost in fewer than k rounds. Each reply looked at is a pair tried.
+//!
+//! Pass 0, sorting and writing the certificate are not counted; they are in the time.
+use reference::compare::NEVER_LOST;
+use reference::game::{attacks, replies, Position};
+use reference::model::Task;
+
+pub struct Tried {
+    pub passes: u64,
+    pub exploring: u64,
+    pub ranking: u64,
+}
+
+/// The rounds of all positions reached, by a number that a position's bytes give.
+struct Rounds {
+    of: Vec<u8>,
+}
+
+/// Stands for NEVER_LOST in a byte; the families have fewer rounds.
+const NEVER: u8 = u8::MAX;
+
+fn place(position: &Position) -> usize {
+    let states = (position.left as usize) << 4 | position.right as usize;
+    position.partners.iter().fold(states, |number, &partner| number << 3 | partner as usize)
+}
+
+impl Rounds {
+    fn new(entries: &[(Position, u32)]) -> Rounds {
+        let mut of = vec![0; 1 << 26];
+        for (position, rounds) in entries {
+            of[place(position)] = match *rounds {
+                NEVER_LOST => NEVER,
+                n => u8::try_from(n).ok().filter(|n| *n != NEVER).expect("fewer rounds"),
+            };
+        }
+        Rounds { of }
+    }
+
+    fn get(&self, position: &Position) -> u64 {
+        self.of[place(position)] as u64
+    }
+}
+
+pub fn tried(task: &Task, entries: &[(Position, u32)]) -> Tried {
+    let rounds = Rounds::new(entries);
+    let lost = entries.iter().map(|(_, n)| *n).filter(|n| *n != NEVER_LOST);
+    let passes = lost.max().unwrap_or(0) as u64 + 1;
+    let positions = || entries.iter().map(|(position, _)| position);
+    Tried {
+        passes,
+        exploring: positions().map(|p| same_tag(task, p)).sum(),
+        ranking: positions().map(|p| looked_at(task, &rounds, passes, p)).sum(),
+    }
+}
+
+fn same_tag(task: &Task, position: &Position) -> u64 {
+    let right = |tag| task.right.edges_from(position.right).filter(|(_, e)| e.tag == tag).count();
+    task.left.edges_from(position.left).map(|(_, e)| right(e.tag) as u64).sum()
+}
+
+/// The replies looked at, over all passes that take this position.
+fn looked_at(task: &Task, rounds: &Rounds, passes: u64, position: &Position) -> u64 {
+    let own = rounds.get(position);
+    if own == 0 {
+        return 0;
+    }
+    let mut sum = 0;
+    // In the last pass that takes the position, attacks after the one that wins are not tried.
+    let mut last = own.min(passes);
+    for attack in attacks(task, position) {
+        let targets: Vec<u64> = replies(task, position, attack).iter().map(|r| rounds.get(&r.leads_to)).collect();
+        sum += looked_at_in(&targets, last);
+        if last == own && targets.iter().all(|&n| n < own) {
+            last = own - 1;
+        }
+    }
+    sum
+}
+
+/// A reply is looked at in the passes up to `last` in which all replies before it lead to positions lost in fewer rounds.
+fn looked_at_in(targets: &[u64], last: u64) -> u64 {
+    let mut most = 0;
+    let mut sum = 0;
+    for &target in targets {
+        sum += last.saturating_sub(most);
+        most = most.max(target);
+    }
+    sum
+}
+
+#[cfg(test)]
+mod tests {
+    use super::*;
+    use reference::compare::solve;
+    use reference::generate::{families::family, valid_task};
+    use reference::random::Random;
+    use std::collections::BTreeMap;
+
+    /// The same counts by going through the passes.
+    fn by_passes(task: &Task) -> (u64, u64) {
+        let mut lost: BTreeMap<Position, u64> = BTreeMap::new();
+        let entries = solve(task).entries;
+        for (position, _) in entries.iter().filter(|(p, _)| p.end_marks_differ(task)) {
+            lost.insert(*position, 0);
+        }
+        let mut looked_at = 0;
+        for pass in 1.. {
+            let open: Vec<Position> = entries.iter().map(|e| e.0).filter(|p| !lost.contains_key(p)).collect();
+            let before = lost.clone();
+            for position in open {
+                let wins = |attack| {
+                    replies(task, &position, attack).iter().all(|reply| {
+                        looked_at += 1;
+                        before.contains_key(&reply.leads_to)
+                    })
+                };
+                if attacks(task, &position).into_iter().any(wins) {
+                    lost.insert(position, pass);
+                }
+            }
+            if lost.len() == before.len() {
+                return (pass, looked_at);
+            }
+        }
+        unreachable!("a pass finds no loss")
+    }
+
+    fn agrees(task: &Task) {
+        let counted = tried(task, &solve(task).entries);
+        assert_eq!((counted.passes, counted.ranking), by_passes(task));
+    }
+
+    #[test]
+    fn families_agree() {
+        for (name, sizes) in [
+            ("dearest", &[3][..]),
+            ("dearest-equal", &[3]),
+            ("ring", &[3, 2]),
+            ("ring-equal", &[3, 2]),
+            ("ring-late", &[5, 2]),
+            ("chain", &[9]),
+            ("rings", &[7, 6]),
+            ("rings-fresh", &[5, 4, 2]),
+        ] {
+            agrees(&family(name, sizes).expect("a family"));
+        }
+    }
+
+    #[test]
+    fn generated_tasks_agree() {
+        for index in 0..20 {
+            agrees(&valid_task(&mut Random::for_item(1, index)));
+        }
+    }
+
+    #[test]
+    fn exploring_counts_edges_of_one_tag() {
+        // 34 positions, 3 edges of one tag on each side.
+        let task = family("dearest", &[3]).expect("a family");
+        assert_eq!(tried(&task, &solve(&task).entries).exploring, 34 * 9);
+        let task = family("chain", &[9]).expect("a family");
+        assert_eq!(tried(&task, &solve(&task).entries).exploring, 8);
+    }
+}

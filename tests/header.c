@@ -1,0 +1,199 @@
+/* The C header, through the static library: what calls return, what buffers then hold, and which pointers and lengths the
+ * careful functions refuse. The last line is "N passed, M failed". */
+#include "../include/nuldopa.h"
+#include <stdio.h>
+#include <string.h>
+
+static int passed, failed;
+
+static void expect(int holds, const char *what, int line)
+{
+    if (holds) {
+        passed++;
+    } else {
+        failed++;
+        printf("line %d: not so: %s\n", line, what);
+    }
+}
+#define EXPECT(condition) expect((condition) != 0, #condition, __LINE__)
+
+/* Marked cases 1 and 2: P against P, and P against G, which has kind 2 at byte 39. */
+static uint8_t equal_task[] = {
+    1, 1, 2, 0, 2, 0, 0, 0, 2, 1, 1, 0, 3, 0, 0, 1, 1, 1, 3, 1, 1, 0, 1, 1, /* P */
+    1, 1, 2, 0, 2, 0, 0, 0, 2, 1, 1, 0, 3, 0, 0, 1, 1, 1, 3, 1, 1, 0, 1, 1, /* P */
+    15};
+static uint8_t differing_task[sizeof equal_task];
+
+static const uint8_t equal_certificate[] = {16, 0, 0, 0, 0, 0, 0, 0, 0, 16, 1, 1, 1, 0, 0, 0, 0, 0};
+static const uint8_t differ_certificate[] = {17, 0, 0, 0, 0, 0, 0, 0, 0, 1, 0, 7, 0, 0, 0, 1};
+static const uint8_t equal_table[] = {0, 0, 0, 0, 0, 0, 0, 0, 255, 255, 255, 255,
+                                      1, 1, 1, 0, 0, 0, 0, 0, 255, 255, 255, 255};
+
+/* Lent buffers, filled with 165 before each call; what is lent stands at their start. */
+static uint8_t table[64], certificate[64];
+
+static void fill(void)
+{
+    memset(table, 165, sizeof table);
+    memset(certificate, 165, sizeof certificate);
+}
+
+static int all(const uint8_t *bytes, size_t count, uint8_t value)
+{
+    while (count > 0)
+        if (bytes[--count] != value)
+            return 0;
+    return 1;
+}
+
+static int untouched(void)
+{
+    return all(table, sizeof table, 165) && all(certificate, sizeof certificate, 165);
+}
+
+static int is(struct nuldopa_answer a, uint32_t refusal, uint32_t verdict, uint32_t positions, uint32_t rounds,
+              size_t length)
+{
+    return a.refusal == refusal && a.verdict == verdict && a.positions == positions && a.rounds == rounds &&
+           a.length == length;
+}
+
+static int refused(struct nuldopa_answer a, uint32_t refusal)
+{
+    return is(a, refusal, 0, 0, 0, 0);
+}
+
+static void layout(void)
+{
+    EXPECT(sizeof(struct nuldopa_answer) == 16 + sizeof(size_t));
+    EXPECT(offsetof(struct nuldopa_answer, rounds) == 12);
+    EXPECT(offsetof(struct nuldopa_answer, length) == 16);
+}
+
+static void comparing(void)
+{
+    size_t n = sizeof equal_task;
+    fill();
+    EXPECT(is(nuldopa_compare(equal_task, n, table, 30, certificate, 20), 0, NULDOPA_EQUAL, 2, 0, 18));
+    EXPECT(memcmp(table, equal_table, 24) == 0 && all(table + 24, 6, 0) && all(table + 30, 34, 165));
+    EXPECT(memcmp(certificate, equal_certificate, 18) == 0 && all(certificate + 18, 46, 165));
+    fill();
+    EXPECT(is(nuldopa_compare(differing_task, n, table, 24, certificate, 16), 0, NULDOPA_DIFFER, 2, 1, 16));
+    EXPECT(memcmp(certificate, differ_certificate, 16) == 0 && all(certificate + 16, 48, 165));
+    EXPECT(all(table + 8, 3, 0) && table[11] == 1 && all(table + 24, 40, 165));
+}
+
+static void refusals(void)
+{
+    size_t n = sizeof equal_task;
+    fill();
+    EXPECT(refused(nuldopa_compare(equal_task, 0, table, 24, certificate, 18), NULDOPA_TASK_CUT) && untouched());
+    EXPECT(refused(nuldopa_compare(equal_task, n - 1, table, 24, certificate, 18), NULDOPA_TASK_CUT) && untouched());
+    EXPECT(refused(nuldopa_compare(equal_task + 1, n - 2, table, 24, certificate, 18), NULDOPA_BAD_HEADER));
+    EXPECT(untouched());
+    EXPECT(refused(nuldopa_compare(equal_task, n, table, 23, certificate, 18), NULDOPA_TABLE_TOO_SMALL));
+    EXPECT(all(table, 23, 0) && all(table + 23, 41, 165) && all(certificate, 64, 165));
+    fill();
+    EXPECT(refused(nuldopa_compare(equal_task, n, table, 24, certificate, 17), NULDOPA_BUFFER_TOO_SMALL));
+    EXPECT(all(table, 24, 0) && all(table + 24, 40, 165) && all(certificate, 64, 165));
+}
+
+static void checking(void)
+{
+    size_t n = sizeof equal_task;
+    EXPECT(is(nuldopa_check(equal_task, n, equal_certificate, 18), 0, NULDOPA_EQUAL, 0, 0, 0));
+    EXPECT(is(nuldopa_check(differing_task, n, differ_certificate, 16), 0, NULDOPA_DIFFER, 0, 1, 0));
+    EXPECT(refused(nuldopa_check(equal_task, n, differ_certificate, 16), NULDOPA_CERTIFICATE_NOT_ACCEPTED));
+    EXPECT(refused(nuldopa_check(equal_task, n, equal_certificate, 17), NULDOPA_CERTIFICATE_ILL_FORMED));
+    EXPECT(refused(nuldopa_check(equal_task, n, equal_certificate, 9), NULDOPA_CERTIFICATE_NOT_ACCEPTED));
+    EXPECT(refused(nuldopa_check(equal_task, n - 1, equal_certificate, 18), NULDOPA_TASK_CUT));
+}
+
+/* A careful call with nothing to refuse does what the plain one does. */
+static void careful_calls(void)
+{
+    size_t n = sizeof equal_task;
+    fill();
+    EXPECT(is(nuldopa_try_compare(equal_task, n, table, 30, certificate, 20), 0, NULDOPA_EQUAL, 2, 0, 18));
+    EXPECT(memcmp(table, equal_table, 24) == 0 && all(table + 24, 6, 0) && all(table + 30, 34, 165));
+    EXPECT(memcmp(certificate, equal_certificate, 18) == 0 && all(certificate + 18, 46, 165));
+    EXPECT(is(nuldopa_try_check(equal_task, n, certificate, 18), 0, NULDOPA_EQUAL, 0, 0, 0));
+    EXPECT(refused(nuldopa_try_check(equal_task, n, certificate, 17), NULDOPA_CERTIFICATE_ILL_FORMED));
+}
+
+static void null_buffers(void)
+{
+    size_t n = sizeof equal_task;
+    fill();
+    EXPECT(refused(nuldopa_try_compare(NULL, 1, table, 24, certificate, 18), NULDOPA_NULL_BUFFER));
+    EXPECT(refused(nuldopa_try_compare(equal_task, n, NULL, 24, certificate, 18), NULDOPA_NULL_BUFFER));
+    EXPECT(refused(nuldopa_try_compare(equal_task, n, table, 24, NULL, 1), NULDOPA_NULL_BUFFER));
+    EXPECT(refused(nuldopa_try_check(NULL, 1, equal_certificate, 18), NULDOPA_NULL_BUFFER));
+    EXPECT(refused(nuldopa_try_check(equal_task, n, NULL, 1), NULDOPA_NULL_BUFFER));
+    EXPECT(untouched());
+    /* Without a length it is an empty buffer. */
+    EXPECT(refused(nuldopa_try_compare(NULL, 0, table, 24, certificate, 18), NULDOPA_TASK_CUT) && untouched());
+    EXPECT(refused(nuldopa_try_compare(equal_task, n, NULL, 0, certificate, 18), NULDOPA_TABLE_TOO_SMALL));
+    EXPECT(refused(nuldopa_try_compare(equal_task, n, table, 24, NULL, 0), NULDOPA_BUFFER_TOO_SMALL));
+    EXPECT(refused(nuldopa_try_compare(NULL, 0, NULL, 0, NULL, 0), NULDOPA_TASK_CUT));
+    EXPECT(refused(nuldopa_try_check(NULL, 0, NULL, 0), NULDOPA_TASK_CUT));
+    EXPECT(refused(nuldopa_try_check(equal_task, n, NULL, 0), NULDOPA_CERTIFICATE_NOT_ACCEPTED));
+}
+
+static void overlapping_buffers(void)
+{
+    uint8_t shared[256];
+    size_t n = sizeof equal_task;
+    memset(shared, 165, sizeof shared);
+    memcpy(shared + 100, equal_task, n);
+    fill();
+    /* The task from byte 100 to 149, and a table or a certificate over its first or last byte, or all of it. */
+    EXPECT(refused(nuldopa_try_compare(shared + 100, n, shared + 77, 24, certificate, 18), NULDOPA_BUFFERS_OVERLAP));
+    EXPECT(refused(nuldopa_try_compare(shared + 100, n, shared + 148, 24, certificate, 18), NULDOPA_BUFFERS_OVERLAP));
+    EXPECT(refused(nuldopa_try_compare(shared + 100, n, shared, 256, certificate, 18), NULDOPA_BUFFERS_OVERLAP));
+    EXPECT(refused(nuldopa_try_compare(shared + 100, n, table, 24, shared + 83, 18), NULDOPA_BUFFERS_OVERLAP));
+    EXPECT(refused(nuldopa_try_compare(shared + 100, n, table, 24, shared + 148, 18), NULDOPA_BUFFERS_OVERLAP));
+    EXPECT(refused(nuldopa_try_compare(equal_task, n, shared, 24, shared, 18), NULDOPA_BUFFERS_OVERLAP));
+    EXPECT(refused(nuldopa_try_compare(equal_task, n, shared, 24, shared + 23, 18), NULDOPA_BUFFERS_OVERLAP));
+    EXPECT(all(shared, 100, 165) && memcmp(shared + 100, equal_task, n) == 0 && all(shared + 149, 107, 165));
+    EXPECT(untouched());
+    /* Side by side, and empty inside another, is no overlap. */
+    EXPECT(nuldopa_try_compare(shared + 100, n, shared + 76, 24, shared + 149, 18).refusal == 0);
+    EXPECT(refused(nuldopa_try_compare(shared + 100, n, shared + 110, 0, certificate, 18), NULDOPA_TABLE_TOO_SMALL));
+    EXPECT(refused(nuldopa_try_compare(shared + 100, n, table, 24, shared + 110, 0), NULDOPA_BUFFER_TOO_SMALL));
+    /* What is only read may overlap. */
+    EXPECT(refused(nuldopa_try_check(shared + 100, n, shared + 100, n), NULDOPA_CERTIFICATE_ILL_FORMED));
+}
+
+static void large_lengths(void)
+{
+    size_t n = sizeof equal_task, large = (size_t)PTRDIFF_MAX + 1;
+    uint8_t *last_page = (uint8_t *)(UINTPTR_MAX - 4095);
+    fill();
+    EXPECT(refused(nuldopa_try_compare(equal_task, large, table, 24, certificate, 18), NULDOPA_LENGTH_TOO_LARGE));
+    EXPECT(refused(nuldopa_try_compare(equal_task, n, table, SIZE_MAX, certificate, 18), NULDOPA_LENGTH_TOO_LARGE));
+    EXPECT(refused(nuldopa_try_compare(equal_task, n, table, 24, certificate, large), NULDOPA_LENGTH_TOO_LARGE));
+    EXPECT(refused(nuldopa_try_compare(equal_task, n, last_page, 4096, certificate, 18), NULDOPA_LENGTH_TOO_LARGE));
+    EXPECT(refused(nuldopa_try_check(equal_task, large, equal_certificate, 18), NULDOPA_LENGTH_TOO_LARGE));
+    EXPECT(refused(nuldopa_try_check(equal_task, n, equal_certificate, SIZE_MAX), NULDOPA_LENGTH_TOO_LARGE));
+    /* A null pointer comes first, and overlap last. */
+    EXPECT(refused(nuldopa_try_compare(equal_task, large, NULL, 24, certificate, 18), NULDOPA_NULL_BUFFER));
+    EXPECT(refused(nuldopa_try_compare(equal_task, n, equal_task, large, certificate, 18), NULDOPA_LENGTH_TOO_LARGE));
+    EXPECT(untouched());
+}
+
+int main(void)
+{
+    memcpy(differing_task, equal_task, sizeof equal_task);
+    differing_task[39] = 2;
+    layout();
+    comparing();
+    refusals();
+    checking();
+    careful_calls();
+    null_buffers();
+    overlapping_buffers();
+    large_lengths();
+    printf("%d passed, %d failed\n", passed, failed);
+    return failed != 0;
+}

@@ -1,0 +1,131 @@
+//! What the calls return, in words for the boundary's numbers.
+use super::boundary::Answer;
+use std::error::Error;
+use std::fmt;
+
+#[derive(Clone, Copy, PartialEq, Eq, Hash, Debug)]
+pub enum Verdict {
+    /// A symbolic bisimulation contains the start.
+    Equal,
+    /// There is none.
+    Differ,
+}
+
+impl fmt::Display for Verdict {
+    fn fmt(&self, f: &mut fmt::Formatter) -> fmt::Result {
+        f.pad(match self {
+            Verdict::Equal => "EQUAL",
+            Verdict::Differ => "DIFFER",
+        })
+    }
+}
+
+/// Why there is no verdict. The numbers are those of the scope paper, in checking order.
+#[derive(Clone, Copy, PartialEq, Eq, PartialOrd, Ord, Hash, Debug)]
+pub enum Refusal {
+    UnknownRecord = 1,
+    TaskCut = 2,
+    RecordMisplaced = 3,
+    BadHeader = 4,
+    BadState = 5,
+    BadEdge = 6,
+    RegisterRuleBroken = 7,
+    EdgeNotRising = 8,
+    TooManyEdges = 9,
+    BadPair = 10,
+    TableTooSmall = 11,
+    BufferTooSmall = 12,
+    CertificateIllFormed = 13,
+    CertificateNotAccepted = 14,
+}
+
+impl Refusal {
+    pub const ALL: [Refusal; 14] = [
+        Refusal::UnknownRecord,
+        Refusal::TaskCut,
+        Refusal::RecordMisplaced,
+        Refusal::BadHeader,
+        Refusal::BadState,
+        Refusal::BadEdge,
+        Refusal::RegisterRuleBroken,
+        Refusal::EdgeNotRising,
+        Refusal::TooManyEdges,
+        Refusal::BadPair,
+        Refusal::TableTooSmall,
+        Refusal::BufferTooSmall,
+        Refusal::CertificateIllFormed,
+        Refusal::CertificateNotAccepted,
+    ];
+
+    pub fn number(self) -> u32 {
+        self as u32
+    }
+
+    fn reason(self) -> &'static str {
+        match self {
+            Refusal::UnknownRecord => "a record's kind is not 1, 2, 3, 4 or 15",
+            Refusal::TaskCut => "the task ends inside a record's body or without an end record",
+            Refusal::RecordMisplaced => "a record is not allowed at its place",
+            Refusal::BadHeader => "a header has too many registers, no or too many states, or no such start state",
+            Refusal::BadState => "a state has not the next number, or has a register or end mark that does not exist",
+            Refusal::BadEdge => "an edge has a state, tag, kind or register that does not exist",
+            Refusal::RegisterRuleBroken => "an edge breaks its kind's register rule",
+            Refusal::EdgeNotRising => "an edge is not above the one before it",
+            Refusal::TooManyEdges => "an edge is its model's 65th",
+            Refusal::BadPair => {
+                "a pair has a register outside a start state's set, does not rise, or reuses a register"
+            }
+            Refusal::TableTooSmall => "the positions reached outnumber the table's entries",
+            Refusal::BufferTooSmall => "the certificate is longer than its buffer",
+            Refusal::CertificateIllFormed => "the proposed certificate is not well formed",
+            Refusal::CertificateNotAccepted => "the proposed certificate is well formed and not accepted",
+        }
+    }
+}
+
+impl fmt::Display for Refusal {
+    fn fmt(&self, f: &mut fmt::Formatter) -> fmt::Result {
+        write!(f, "refusal {}: {}", self.number(), self.reason())
+    }
+}
+
+impl Error for Refusal {}
+
+/// A verdict of the comparer.
+#[derive(Clone, Copy, PartialEq, Eq, Debug)]
+pub struct Comparison {
+    pub verdict: Verdict,
+    /// Positions reached: so many entries of the table are filled.
+    pub positions: usize,
+    /// The least count of rounds that is enough to show the difference; 0 for EQUAL.
+    pub rounds: u32,
+    /// Bytes of the certificate, from the start of its buffer.
+    pub length: usize,
+}
+
+/// What an accepted certificate shows.
+#[derive(Clone, Copy, PartialEq, Eq, Debug)]
+pub struct Acceptance {
+    pub verdict: Verdict,
+    /// The rounds that the certificate lists for the start; 0 for EQUAL.
+    pub rounds: u32,
+}
+
+/// The verdict, or the refusal. Other numbers than those here are never returned by the library.
+fn verdict(answer: Answer) -> Result<Verdict, Refusal> {
+    match (answer.refusal, answer.verdict) {
+        (0, 16) => Ok(Verdict::Equal),
+        (0, 17) => Ok(Verdict::Differ),
+        (number @ 1..=14, _) => Err(Refusal::ALL[number as usize - 1]),
+        _ => panic!("the library returned {answer:?}"),
+    }
+}
+
+pub fn comparison(answer: Answer) -> Result<Comparison, Refusal> {
+    let Answer { positions, rounds, length, .. } = answer;
+    Ok(Comparison { verdict: verdict(answer)?, positions: positions as usize, rounds, length })
+}
+
+pub fn acceptance(answer: Answer) -> Result<Acceptance, Refusal> {
+    Ok(Acceptance { verdict: verdict(answer)?, rounds: answer.rounds })
+}

@@ -1,0 +1,76 @@
+//! A comparison in memory of its own.
+use super::{compare, records, Position, Records, Refusal, Verdict, ENTRY_LENGTH, LOST_LENGTH, MOST_POSITIONS};
+
+/// A verdict with its table and its certificate.
+#[derive(Clone, PartialEq, Eq, Debug)]
+pub struct Report {
+    pub verdict: Verdict,
+    /// 0 for EQUAL.
+    pub rounds: u32,
+    /// The entries of the positions reached.
+    pub table: Vec<u8>,
+    pub certificate: Vec<u8>,
+}
+
+impl Report {
+    pub fn positions(&self) -> usize {
+        self.table.len() / ENTRY_LENGTH
+    }
+
+    pub fn entries(&self) -> Entries<'_> {
+        entries(&self.table)
+    }
+
+    pub fn records(&self) -> Records<'_> {
+        records(&self.certificate)
+    }
+}
+
+const FIRST_ENTRIES: usize = 1024;
+
+/// Compares the two models of a task in a table that grows until it is large enough. Only refusals 1 to 10 are given. The
+/// largest table and its certificate buffer take 96 MB.
+pub fn compare_owned(task: &[u8]) -> Result<Report, Refusal> {
+    let mut entries = FIRST_ENTRIES;
+    loop {
+        let outcome = compare_in(task, entries);
+        if outcome != Err(Refusal::TableTooSmall) || entries == MOST_POSITIONS {
+            return outcome;
+        }
+        // Eight times as many: what a table that was too small took is then small beside the next one.
+        entries = (entries * 8).min(MOST_POSITIONS);
+    }
+}
+
+fn compare_in(task: &[u8], entries: usize) -> Result<Report, Refusal> {
+    let mut table = vec![0; entries * ENTRY_LENGTH];
+    let mut certificate = vec![0; entries * LOST_LENGTH];
+    let found = compare(task, &mut table, &mut certificate)?;
+    table.truncate(found.positions * ENTRY_LENGTH);
+    certificate.truncate(found.length);
+    table.shrink_to_fit();
+    certificate.shrink_to_fit();
+    Ok(Report { verdict: found.verdict, rounds: found.rounds, table, certificate })
+}
+
+/// The positions of filled table entries, each with its rounds, or without where it is never lost.
+#[derive(Clone, Debug)]
+pub struct Entries<'a> {
+    rest: std::slice::ChunksExact<'a, u8>,
+}
+
+/// The first entries of a table; lend it as many bytes as there are positions reached, 12 each.
+pub fn entries(table: &[u8]) -> Entries<'_> {
+    Entries { rest: table.chunks_exact(ENTRY_LENGTH) }
+}
+
+impl Iterator for Entries<'_> {
+    type Item = (Position, Option<u32>);
+
+    fn next(&mut self) -> Option<Self::Item> {
+        let (position, rounds) = self.rest.next()?.split_at(8);
+        let position = Position::from_bytes(position.try_into().ok()?);
+        let rounds = u32::from_be_bytes(rounds.try_into().ok()?);
+        Some((position, Some(rounds).filter(|&n| n != u32::MAX)))
+    }
+}

@@ -1,0 +1,94 @@
+//! The samples through the wrapper.
+use super::*;
+
+macro_rules! sample {
+    ($name:literal) => {
+        include_bytes!(concat!("../../samples/", $name, ".task"))
+    };
+}
+
+fn position(left: u8, right: u8, partners: [u8; 6]) -> Position {
+    Position { left, right, partners }
+}
+
+#[test]
+fn equal_readers() {
+    let report = compare_owned(sample!("case-01")).unwrap();
+    let (start, after) = (position(0, 0, [0; 6]), position(1, 1, [1, 0, 0, 0, 0, 0]));
+    assert_eq!((report.verdict, report.positions(), report.rounds), (Verdict::Equal, 2, 0));
+    assert_eq!(report.certificate.len(), 18);
+    assert!(report.entries().eq([(start, None), (after, None)]));
+    assert!(report.records().eq([Record::Kept { position: start }, Record::Kept { position: after }]));
+    let accepted = Acceptance { verdict: Verdict::Equal, rounds: 0 };
+    assert_eq!(check(sample!("case-01"), &report.certificate), Ok(accepted));
+}
+
+#[test]
+fn differing_readers() {
+    let report = compare_owned(sample!("case-02")).unwrap();
+    assert_eq!((report.verdict, report.positions(), report.rounds), (Verdict::Differ, 2, 1));
+    let attack = Attack { side: Side::Left, edge: 0, case: Case::Seen };
+    let lost = Record::Lost { position: position(0, 0, [0; 6]), attack: Some(attack), rounds: 1 };
+    assert!(report.records().eq([lost]));
+    assert_eq!(lost.to_string(), "LOST 0 0 0 0 0 0 0 0 1 0 7 1");
+    let accepted = Acceptance { verdict: Verdict::Differ, rounds: 1 };
+    assert_eq!(check(sample!("case-02"), &report.certificate), Ok(accepted));
+}
+
+#[test]
+fn differing_end_marks() {
+    let report = compare_owned(sample!("case-06")).unwrap();
+    assert_eq!((report.verdict, report.rounds), (Verdict::Differ, 0));
+    let lost = Record::Lost { position: position(0, 0, [0; 6]), attack: None, rounds: 0 };
+    assert!(report.records().eq([lost]));
+    assert!(report.entries().eq([(position(0, 0, [0; 6]), Some(0))]));
+}
+
+#[test]
+fn lent_slices() {
+    let task = sample!("case-01");
+    let mut table = [1; 30];
+    let mut certificate = [1; 20];
+    let found = compare(task, &mut table, &mut certificate).unwrap();
+    assert_eq!(found, Comparison { verdict: Verdict::Equal, positions: 2, rounds: 0, length: 18 });
+    assert_eq!((&table[24..], &certificate[18..]), (&[0; 6][..], &[1; 2][..]));
+    assert_eq!(compare(task, &mut [1; 23], &mut certificate), Err(Refusal::TableTooSmall));
+    assert_eq!(compare(task, &mut table, &mut [1; 17]), Err(Refusal::BufferTooSmall));
+    assert_eq!(table, [0; 30]);
+    assert_eq!(compare(task, &mut [], &mut []), Err(Refusal::TableTooSmall));
+}
+
+#[test]
+fn refusals() {
+    assert_eq!(compare_owned(&[]), Err(Refusal::TaskCut));
+    assert_eq!(compare_owned(sample!("case-08")), Err(Refusal::RegisterRuleBroken));
+    assert_eq!(check(&[9], &[]), Err(Refusal::UnknownRecord));
+    assert_eq!(check(sample!("case-01"), &[18]), Err(Refusal::CertificateIllFormed));
+    assert_eq!(check(sample!("case-01"), &[]), Err(Refusal::CertificateNotAccepted));
+    let numbers: Vec<u32> = Refusal::ALL.iter().map(|r| r.number()).collect();
+    assert!(numbers.into_iter().eq(1..=14));
+    assert!(Refusal::TaskCut.to_string().starts_with("refusal 2: "));
+}
+
+/// Bytes that make no record end the iteration, whatever they are.
+#[test]
+fn records_of_other_bytes() {
+    let kept = compare_owned(sample!("case-01")).unwrap().certificate;
+    assert_eq!(records(&kept[..17]).count(), 1);
+    assert_eq!(records(&[&kept[..], &[18]].concat()).count(), 2);
+    let lost = compare_owned(sample!("case-11")).unwrap().certificate;
+    assert_eq!(records(&lost).count(), 3);
+    for (place, byte) in [(9, 0), (9, 3), (11, 9), (15, 0)] {
+        let mut altered = lost.clone();
+        altered[place] = byte;
+        assert_eq!(records(&altered).count(), 0, "byte {place}");
+    }
+    assert_eq!(records(&[]).count(), 0);
+}
+
+#[test]
+fn layout_of_the_answer() {
+    use boundary::Answer;
+    assert_eq!((size_of::<Answer>(), align_of::<Answer>()), (24, 8));
+    assert_eq!(std::mem::offset_of!(Answer, length), 16);
+}

@@ -1,0 +1,120 @@
+//! Certificate bytes (01, "Verdict, table, certificate"): positions, kept or lost, with refusal 13.
+use crate::model::{Side, Task, REGISTERS};
+use crate::task::Refusal;
+
+const KEPT: u8 = 16;
+const LOST: u8 = 17;
+/// The bytes of a position in a record, and those of attack and rounds after it.
+const POSITION: usize = 2 + REGISTERS as usize;
+const ATTACK_AND_ROUNDS: usize = 3 + 4;
+
+/// Two states and the partner of each left register; 0 is none. The derived order is that of the bytes.
+#[derive(Clone, Copy, PartialEq, Eq, PartialOrd, Ord, Debug)]
+pub struct Position {
+    pub states: [u8; 2],
+    pub partners: [u8; REGISTERS as usize],
+}
+
+impl Position {
+    pub fn start(task: &Task) -> Position {
+        let mut partners = [0; REGISTERS as usize];
+        for &(left, right) in &task.pairs {
+            partners[usize::from(left) - 1] = right;
+        }
+        let states = [task.models[0].start, task.models[1].start];
+        Position { states, partners }
+    }
+
+    fn of(bytes: &[u8]) -> Position {
+        let mut partners = [0; REGISTERS as usize];
+        partners.copy_from_slice(&bytes[2..POSITION]);
+        let states = [bytes[0], bytes[1]];
+        Position { states, partners }
+    }
+
+    /// The left registers that have a partner, with it.
+    pub fn pairs(&self) -> impl Iterator<Item = (u8, u8)> + '_ {
+        let numbered = (1..).zip(self.partners);
+        numbered.filter(|&(_, right)| right != 0)
+    }
+
+    fn is_legal(&self, task: &Task) -> bool {
+        let exists =
+            |side: Side| usize::from(self.states[side.index()]) < task.model(side).states.len();
+        let set = |side: Side| task.model(side).set(self.states[side.index()]);
+        let (left_set, right_set) = (set(Side::Left), set(Side::Right));
+        let used = |partner| self.pairs().filter(|pair| pair.1 == partner).count();
+        let mut pairs = self.pairs();
+        Side::BOTH.into_iter().all(exists)
+            && pairs.all(|(left, right)| {
+                left_set.holds(left) && right_set.holds(right) && used(right) == 1
+            })
+    }
+}
+
+/// A lost position, with the attack as the record names it: side, edge, case.
+#[derive(Clone, PartialEq, Eq, Debug)]
+pub struct Loss {
+    /// Where the record begins.
+    pub at: usize,
+    pub position: Position,
+    pub attack: [u8; 3],
+    pub rounds: u32,
+}
+
+#[derive(Clone, PartialEq, Eq, Debug)]
+pub enum Certificate {
+    /// Kept positions, each with the place where its record begins.
+    Equal(Vec<(usize, Position)>),
+    Differ(Vec<Loss>),
+}
+
+fn refused<T>(at: usize, words: &str) -> Result<T, Refusal> {
+    let words = words.into();
+    Err(Refusal {
+        number: 13,
+        at,
+        words,
+    })
+}
+
+/// Reads a certificate of a task. The empty one is a list of no kept positions.
+pub fn read(task: &Task, bytes: &[u8]) -> Result<Certificate, Refusal> {
+    let kind = bytes.first().copied().unwrap_or(KEPT);
+    let length = match kind {
+        KEPT => POSITION,
+        LOST => POSITION + ATTACK_AND_ROUNDS,
+        _ => return refused(0, "expected records of kind 16 or 17"),
+    };
+    let mut records = Vec::new();
+    for (index, record) in bytes.chunks(1 + length).enumerate() {
+        let at = index * (1 + length);
+        if record[0] != kind {
+            return refused(at, "expected records of one kind");
+        }
+        if record.len() != 1 + length {
+            return refused(at, "expected a whole record, found the end of the file");
+        }
+        let position = Position::of(&record[1..]);
+        if !position.is_legal(task) {
+            return refused(at, "expected a position that is legal in this task");
+        }
+        records.push((at, position, &record[1 + POSITION..]));
+    }
+    if let Some(pair) = records.windows(2).find(|pair| pair[0].1 >= pair[1].1) {
+        return refused(pair[1].0, "expected positions that rise");
+    }
+    Ok(match kind {
+        KEPT => Certificate::Equal(records.iter().map(|record| (record.0, record.1)).collect()),
+        _ => Certificate::Differ(records.into_iter().map(loss).collect()),
+    })
+}
+
+fn loss((at, position, rest): (usize, Position, &[u8])) -> Loss {
+    Loss {
+        at,
+        position,
+        attack: [rest[0], rest[1], rest[2]],
+        rounds: u32::from_be_bytes([rest[3], rest[4], rest[5], rest[6]]),
+    }
+}

@@ -1,0 +1,9 @@
+//! What the programs `tasktext` and `explain` are made of. Written from the scope paper ("01") alone: nothing is shared
+//! with the reference or with the proved crates, so that this is one more reading of it.
+pub mod certificate;
+pub mod explain;
+pub mod model;
+pub mod setting;
+pub mod task;
+pub mod text;
+mod words;

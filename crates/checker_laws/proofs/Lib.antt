@@ -2,3 +2,5 @@ pub mod Lists
 pub mod Records
 pub mod Answers
 pub mod Places
+pub mod Tries
+pub mod Losses

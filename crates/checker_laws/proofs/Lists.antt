@@ -1,14 +1,15 @@
 -- Laws of lists that a check goes through place by place. Assumes nothing.
 use Prim.Native.Nat.{ℕ, zero, suc, _+_, _-_, _≤_, _<_}
 use mathlib.Core.Path.{_≡_, refl, sym, _∙_, ap, ap₂}
-use mathlib.Core.Bool.{Bool, true, false, _&&_, _||_}
+use mathlib.Core.Bool.{Bool, true, false, not, _&&_, _||_}
 use mathlib.Core.List.{List, [], _∷_, _++_, map, flatMap, append-assoc, List·Memᴰ·head, List·Memᴰ·tail}
 use mathlib.Core.Option.{Option, none, some}
 use native.Mathlib.Nat.{add-zero}
 use native.Mathlib.Numerals.{add-one}
 use native.Mathlib.Omega.{arith}
 use native.Mathlib.Decide.{decLt}
-use lib.ListN.{length, getD}
+use lib.ListN.{length, getD, take, drop}
+use lib.Seq.{drop-cons}
 use Rattle.fra.specs.Lists.{_∈_, any, all, keep, count, least}
 use Rattle.fra_laws.proofs.Lists.{keep-passes, keep-fails, least-found, least-none}
 use Rattle.fra_laws.proofs.Tests.{not-both}
@@ -116,18 +117,16 @@ module _ {A B : Type 0} (f : B → A) (z : B) where
       ap₂ {C = List A} (λ a m. a ∷ m) (rw add-zero at (h 0 (omega arith)))
       (by-places g (suc k) l (λ i p. let e : suc k + i ≡ k + suc i = omega arith in rw e (h (suc i) (omega arith))))
 
--- ── keep, all, map, flatMap ──
+-- a part of a list is what stands at its places
+pub part-by-places : (n : ℕ) (l : List ℕ) (k : ℕ) → k + n ≤ length l → take n (drop k l) ≡ map (λ i. getD l i 0) (count k n)
+unfolding count
+part-by-places zero l k h = refl
+part-by-places (suc n) l k h =
+    rw (drop-cons l k 0 (omega arith)) (ap (λ (m : List ℕ). getD l k 0 ∷ m) (part-by-places n l (suc k) (omega arith)))
+
+-- ── all and any of lists that are put together from others ──
 
 module _ {A : Type 0} where
-  keep-append : (f : A → Bool) (l m : List A) → keep f (l ++ m) ≡ keep f l ++ keep f m
-  unfolding keep
-  keep-append f [] m = refl
-  keep-append f (x ∷ l) m = step (f x) refl (keep-append f l m)
-    where
-      step : (b : Bool) → f x ≡ b → keep f (l ++ m) ≡ keep f l ++ keep f m → keep f (x ∷ l ++ m) ≡ keep f (x ∷ l) ++ keep f m
-      step true e r = rw (keep-passes f x (l ++ m) e, keep-passes f x l e, r)
-      step false e r = rw (keep-fails f x (l ++ m) e, keep-fails f x l e, r)
-
   pub all-append : (f : A → Bool) (l m : List A) → all f (l ++ m) ≡ (all f l && all f m)
   unfolding all
   all-append f [] m = refl
@@ -156,29 +155,7 @@ module _ {A : Type 0} where
   all-same f g (x ∷ l) h =
       ap₂ (λ a b. a && b) (h x (List·Memᴰ·head refl)) (all-same f g l (λ y m. h y (List·Memᴰ·tail m)))
 
-  -- a test that passes wherever another fails is left to what the other keeps
-  pub all-kept : (f g s : A → Bool) (l : List A) → ((x : A) → x ∈ l → s x ≡ true → f x ≡ g x)
-      → ((x : A) → x ∈ l → s x ≡ false → f x ≡ true)
-      → all f l ≡ all g (keep s l)
-  unfolding all keep
-  all-kept f g s [] h k = refl
-  all-kept f g s (x ∷ l) h k = step (s x) refl (all-kept f g s l (λ y m. h y (List·Memᴰ·tail m)) (λ y m. k y (List·Memᴰ·tail m)))
-    where
-      step : (b : Bool) → s x ≡ b → all f l ≡ all g (keep s l) → all f (x ∷ l) ≡ all g (keep s (x ∷ l))
-      step true e r = rw (keep-passes s x l e, h x (List·Memᴰ·head refl) e, r)
-      step false e r = rw (keep-fails s x l e, k x (List·Memᴰ·head refl) e, r)
-
 module _ {A B : Type 0} where
-  pub keep-map : (f : B → Bool) (g : A → B) (l : List A) → keep f (map g l) ≡ map g (keep (λ x. f (g x)) l)
-  unfolding keep
-  keep-map f g [] = refl
-  keep-map f g (x ∷ l) = step (f (g x)) refl (keep-map f g l)
-    where
-      step : (b : Bool) → f (g x) ≡ b → keep f (map g l) ≡ map g (keep (λ x. f (g x)) l)
-          → keep f (map g (x ∷ l)) ≡ map g (keep (λ x. f (g x)) (x ∷ l))
-      step true e r = rw (keep-passes f (g x) (map g l) e, keep-passes (λ x. f (g x)) x l e, r)
-      step false e r = rw (keep-fails f (g x) (map g l) e, keep-fails (λ x. f (g x)) x l e, r)
-
   pub all-map : (f : B → Bool) (g : A → B) (l : List A) → all f (map g l) ≡ all (λ x. f (g x)) l
   unfolding all
   all-map f g [] = refl
@@ -189,10 +166,14 @@ module _ {A B : Type 0} where
   any-map f g [] = refl
   any-map f g (x ∷ l) = ap (λ b. f (g x) || b) (any-map f g l)
 
-  -- all that are kept of lists in a row
-  pub all-keep-flatMap : (f g : B → Bool) (h : A → List B) (l : List A)
-      → all f (keep g (flatMap h l)) ≡ all (λ x. all f (keep g (h x))) l
+  -- all of the lists that come from the elements that pass a test
+  pub all-flatMap-keep : (f : B → Bool) (g : A → List B) (s : A → Bool) (l : List A)
+      → all f (flatMap g (keep s l)) ≡ all (λ x. not (s x) || all f (g x)) l
   unfolding all flatMap keep
-  all-keep-flatMap f g h [] = refl
-  all-keep-flatMap f g h (x ∷ l) =
-      rw (keep-append g (h x) (flatMap h l), all-append f (keep g (h x)) (keep g (flatMap h l)), all-keep-flatMap f g h l)
+  all-flatMap-keep f g s [] = refl
+  all-flatMap-keep f g s (x ∷ l) = step (s x) refl (all-flatMap-keep f g s l)
+    where
+      step : (b : Bool) → s x ≡ b → all f (flatMap g (keep s l)) ≡ all (λ x. not (s x) || all f (g x)) l
+          → all f (flatMap g (keep s (x ∷ l))) ≡ all (λ x. not (s x) || all f (g x)) (x ∷ l)
+      step true e r = rw (keep-passes s x l e, e, ← r) (all-append f (g x) (flatMap g (keep s l)))
+      step false e r = rw (keep-fails s x l e, e) r

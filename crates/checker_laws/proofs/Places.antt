@@ -3,26 +3,26 @@
 use Prim.Native.Nat.{ℕ, zero, suc, _+_, _*_, _/_, _≤_, _<_}
 use mathlib.Core.Path.{_≡_, refl, sym, _∙_, ap}
 use mathlib.Core.Bool.{Bool, true, false, _&&_}
-use mathlib.Core.List.{List, [], _∷_, map}
+use mathlib.Core.List.{List, map}
 use mathlib.Core.Option.{Option, none, some}
 use native.Mathlib.Nat.{suc-mul, le-div-iff-mul-le}
 use native.Mathlib.Numerals.{add-one}
 use native.Mathlib.Omega.{arith}
 use native.Mathlib.Decide.{ℕ-discrete, decLt}
-use lib.ListN.{length, take, drop, length-drop}
+use lib.ListN.{length}
 use lib.Dec.{ltb}
-use Rattle.fra.specs.Lists.{any, count, least, below}
-use Rattle.fra.specs.Position.{bytes, before}
+use Rattle.fra.specs.Lists.{any, all, count, least}
+use Rattle.fra.specs.Position.{before}
 use Rattle.fra.specs.declared.Position.{Position}
 use Rattle.fra.specs.declared.Task.{Task}
 use Rattle.fra_laws.proofs.Tests.{not-both, fails-unless, and-left, and-right, and-intro, same-test}
 use Rattle.fra_laws.proofs.Lists.{any-witness, any-intro, count-intro, count-elim, least-found, least-none}
-use Rattle.fra_laws.proofs.Order.{before-irreflexive, below-irreflexive, below-transitive, below-total, bytes-injective}
+use Rattle.fra_laws.proofs.Order.{before-irreflexive, before-transitive, before-total}
 use Rattle.outcome.specs.Certificate.{Loss}
-use Rattle.outcome.specs.Check.{positionOf, lossFrom, same, startRounds}
+use Rattle.outcome.specs.Check.{lossFrom, same, startRounds}
 use Rattle.outcome_laws.proofs.Accepted.{same-passes}
 use Rattle.checker_laws.specs.Records.{recordCount, positionAt, lossAt, positions, losses, Listing, placeOf, isFound, roundsFound, soonerFound}
-use Rattle.checker_laws.proofs.Lists.{least-at, least-nowhere, any-map}
+use Rattle.checker_laws.proofs.Lists.{least-at, least-nowhere, all-map, any-map}
 
 -- ── Places of records ──
 
@@ -30,30 +30,17 @@ use Rattle.checker_laws.proofs.Lists.{least-at, least-nowhere, any-map}
 pub record-room : (w : ℕ) (l : List ℕ) (i : ℕ) → 0 < w → i < recordCount w l → i * w + w ≤ length l
 record-room w l i p h = rw suc-mul at (le-div-iff-mul-le p .0 h)
 
-position-bytes : (r : ℕ) (body : List ℕ) → 2 ≤ length body → bytes (positionOf r body) ≡ take (r + 2) body
-unfolding positionOf bytes
-position-bytes r [] h = absurd (omega arith)
-position-bytes r (a ∷ []) h = absurd (omega arith)
-position-bytes r (a ∷ b ∷ l) h = let e : r + 2 ≡ suc (suc r) = omega arith in rw e
-
-pub bytes-at : (r w : ℕ) (l : List ℕ) (i : ℕ) → r + 3 ≤ w → i < recordCount w l
-    → bytes (positionAt r w l i) ≡ take (r + 2) (drop (i * w + 1) l)
-unfolding positionAt
-bytes-at r w l i wide h =
-    let room = record-room w l i (omega arith) h in
-    position-bytes r (drop (i * w + 1) l) (rw length-drop (omega arith))
-
 -- ── Halving ──
 
--- of n strings that rise, those before place low are below the sought one, and those from place high on are not
-pub record Bracket (f : ℕ → List ℕ) (n : ℕ) (sought : List ℕ) (low high : ℕ) : Type 0 where
+-- of n positions that rise, those before place low are before p, and those from place high on are not
+pub record Bracket (f : ℕ → Position) (n : ℕ) (p : Position) (low high : ℕ) : Type 0 where
   pub ordered : low ≤ high
   pub within : high ≤ n
-  pub lower : (i : ℕ) → i < low → below (f i) sought ≡ true
-  pub upper : (i : ℕ) → high ≤ i → i < n → below (f i) sought ≡ false
+  pub lower : (i : ℕ) → i < low → before (f i) p ≡ true
+  pub upper : (i : ℕ) → high ≤ i → i < n → before (f i) p ≡ false
 
-pub bracket-start : (f : ℕ → List ℕ) (n : ℕ) (sought : List ℕ) → Bracket f n sought 0 n
-bracket-start f n sought =
+pub bracket-start : (f : ℕ → Position) (n : ℕ) (p : Position) → Bracket f n p 0 n
+bracket-start f n p =
     record {
       ordered = omega arith;
       within = omega arith;
@@ -61,82 +48,85 @@ bracket-start f n sought =
       upper = λ i h k. absurd (omega arith);
     }
 
-module _ (f : ℕ → List ℕ) (n : ℕ) (rises : (i j : ℕ) → i < j → j < n → below (f i) (f j) ≡ true) where
-  module _ (sought : List ℕ) (low high m : ℕ) (b : Bracket f n sought low high) (p : low ≤ m) (q : m < high) where
-    pub bracket-up : below (f m) sought ≡ true → Bracket f n sought (m + 1) high
-    bracket-up h =
-        record {
-          ordered = omega arith;
-          within = b .within;
-          lower = λ i k. step i (ℕ-discrete i m) k;
-          upper = b .upper;
-        }
+module _ (f : ℕ → Position) (n : ℕ) (rises : (i j : ℕ) → i < j → j < n → before (f i) (f j) ≡ true) where
+  module _ (p : Position) (low high m : ℕ) (b : Bracket f n p low high) (g : low ≤ m) (h : m < high) where
+    pub bracket-up : before (f m) p ≡ true → Bracket f n p (m + 1) high
+    bracket-up e =
+        record { ordered = omega arith; within = b .within; lower = λ i k. at i (ℕ-discrete i m) k; upper = b .upper }
       where
-        step : (i : ℕ) → Dec (i ≡ m) → i < m + 1 → below (f i) sought ≡ true
-        step i (yes e) k = rw e h
-        step i (no d) k = below-transitive (f i) (f m) sought (rises i m (omega arith) (omega (arith, b .within))) h
+        at : (i : ℕ) → Dec (i ≡ m) → i < m + 1 → before (f i) p ≡ true
+        at i (yes d) k = rw d e
+        at i (no d) k = before-transitive (f i) (f m) p (rises i m (omega arith) (omega (arith, b .within))) e
 
-    pub bracket-down : below (f m) sought ≡ false → Bracket f n sought low m
-    bracket-down h =
-        record {
-          ordered = p;
-          within = omega (arith, b .within);
-          lower = b .lower;
-          upper = λ i k l. step i (ℕ-discrete i m) k l;
-        }
+    pub bracket-down : before (f m) p ≡ false → Bracket f n p low m
+    bracket-down e =
+        record { ordered = g; within = omega (arith, b .within); lower = b .lower; upper = λ i. at i (ℕ-discrete i m) }
       where
-        step : (i : ℕ) → Dec (i ≡ m) → m ≤ i → i < n → below (f i) sought ≡ false
-        step i (yes e) k l = rw e h
-        step i (no d) k l =
-            fails-unless (below (f i) sought)
-            (λ g. not-both (below (f m) sought) (below-transitive (f m) (f i) sought (rises m i (omega arith) l) g) h)
+        at : (i : ℕ) → Dec (i ≡ m) → m ≤ i → i < n → before (f i) p ≡ false
+        at i (yes d) k l = rw d e
+        at i (no d) k l =
+            fails-unless (before (f i) p)
+            (λ q. not-both (before (f m) p) (before-transitive (f m) (f i) p (rises m i (omega arith) l) q) e)
 
 -- ── What halving finds ──
+
+other-before : (p q : Position) → before q p ≡ true → same p q ≡ false
+other-before p q h =
+    fails-unless (same p q) (λ e. not-both (before q p) h (rw (same-passes p q .0 e) (before-irreflexive p)))
+
+other-after : (p q : Position) → before p q ≡ true → same p q ≡ false
+other-after p q h =
+    fails-unless (same p q) (λ e. not-both (before p q) h (rw (same-passes p q .0 e) (before-irreflexive p)))
 
 module _ (r w : ℕ) (l : List ℕ) (p : Position) where
   -- of the records' positions, those before place k are before p, and those from place k on are not
   abbrev pub Bound : ℕ → Type 0
-  Bound k = Bracket (λ i. bytes (positionAt r w l i)) (recordCount w l) (bytes p) k k
-
-  other-below : (q : Position) → below (bytes q) (bytes p) ≡ true → same p q ≡ false
-  other-below q h =
-      fails-unless (same p q)
-      (λ e. not-both (below (bytes q) (bytes p)) h (rw (same-passes p q .0 e) (below-irreflexive (bytes p))))
-
-  other-above : (q : Position) → below (bytes p) (bytes q) ≡ true → same p q ≡ false
-  other-above q h =
-      fails-unless (same p q)
-      (λ e. not-both (below (bytes p) (bytes q)) h (rw (same-passes p q .0 e) (below-irreflexive (bytes p))))
+  Bound k = Bracket (positionAt r w l) (recordCount w l) p k k
 
   module _ (k : ℕ) (b : Bound k) where
     pub place-past : recordCount w l ≤ k → placeOf r w l p ≡ none
     unfolding placeOf
     place-past h =
         least-nowhere (λ i. same p (positionAt r w l i)) (recordCount w l)
-        (λ i q. other-below (positionAt r w l i) (b .lower i (omega arith)))
+        (λ i q. other-before p (positionAt r w l i) (b .lower i (omega arith)))
 
-    pub place-above : Listing r w l → k < recordCount w l → below (bytes p) (bytes (positionAt r w l k)) ≡ true
-        → placeOf r w l p ≡ none
-    unfolding placeOf before
-    place-above listing h e = least-nowhere (λ i. same p (positionAt r w l i)) (recordCount w l) (λ i q. at i q (decLt i k) (ℕ-discrete i k))
+    pub place-after : Listing r w l → k < recordCount w l → before p (positionAt r w l k) ≡ true → placeOf r w l p ≡ none
+    unfolding placeOf
+    place-after listing h e =
+        least-nowhere (λ i. same p (positionAt r w l i)) (recordCount w l) (λ i q. at i q (decLt i k) (ℕ-discrete i k))
       where
         at : (i : ℕ) → i < recordCount w l → Dec (i < k) → Dec (i ≡ k) → same p (positionAt r w l i) ≡ false
-        at i q (yes d) _ = other-below (positionAt r w l i) (b .lower i d)
-        at i q (no d) (yes f) = other-above (positionAt r w l i) (rw f e)
+        at i q (yes d) _ = other-before p (positionAt r w l i) (b .lower i d)
+        at i q (no d) (yes f) = other-after p (positionAt r w l i) (rw f e)
         at i q (no d) (no f) =
-            other-above (positionAt r w l i)
-            (below-transitive (bytes p) (bytes (positionAt r w l k)) (bytes (positionAt r w l i)) e
-            (listing .rising k i (omega arith) q))
+            other-after p (positionAt r w l i)
+            (before-transitive p (positionAt r w l k) (positionAt r w l i) e (listing .rising k i (omega arith) q))
 
-    pub place-here : k < recordCount w l → below (bytes p) (bytes (positionAt r w l k)) ≡ false → placeOf r w l p ≡ some k
+    pub place-here : k < recordCount w l → before p (positionAt r w l k) ≡ false → placeOf r w l p ≡ some k
     unfolding placeOf
     place-here h e =
-        let q = positionAt r w l k in
         least-at (λ i. same p (positionAt r w l i)) (recordCount w l) k h
-        (same-passes p q .1 (bytes-injective q p (below-total (bytes q) (bytes p) (b .upper k (omega arith) h) e)))
-        (λ i d. other-below (positionAt r w l i) (b .lower i d))
+        (same-passes p (positionAt r w l k) .1 (before-total (positionAt r w l k) p (b .upper k (omega arith) h) e))
+        (λ i d. other-before p (positionAt r w l i) (b .lower i d))
+
+-- ── Every record ──
+
+module _ (r w : ℕ) (l : List ℕ) where
+  pub each-position : (f : Position → Bool)
+      → all f (positions r w l) ≡ all (λ i. f (positionAt r w l i)) (count 0 (recordCount w l))
+  unfolding positions
+  each-position f = all-map f (positionAt r w l) (count 0 (recordCount w l))
+
+  pub each-loss : (f : Loss → Bool) → all f (losses r w l) ≡ all (λ i. f (lossAt r w l i)) (count 0 (recordCount w l))
+  unfolding losses
+  each-loss f = all-map f (lossAt r w l) (count 0 (recordCount w l))
 
 -- ── What the record that is found says ──
+
+pub place-exists : (r w : ℕ) (l : List ℕ) (p : Position) (i : ℕ) → placeOf r w l p ≡ some i → i < recordCount w l
+unfolding placeOf
+place-exists r w l p i e =
+    let (_, below, _) = least-found (λ i. same p (positionAt r w l i)) 0 (recordCount w l) i e in omega arith
 
 any-least : (f : ℕ → Bool) (i n : ℕ) → any f (count i n) ≡ isFound (least f i n)
 unfolding any count least

@@ -1,6 +1,6 @@
 -- Records by their places are what the checker takes for records, and its test for form passes exactly where they are whole
 -- records of one kind whose positions are in order. Assumes nothing.
-use Prim.Native.Nat.{ℕ, zero, suc, _+_, _*_, _/_, _%_, _≤_, _<_}
+use Prim.Native.Nat.{ℕ, zero, suc, _+_, _-_, _*_, _/_, _%_, _≤_, _<_}
 use mathlib.Core.Path.{_≡_, refl, sym, _∙_, ap, ap₂}
 use mathlib.Core.Logic.{inl, inr}
 use mathlib.Core.Bool.{Bool, true, false, _&&_}
@@ -58,6 +58,38 @@ module _ (r : ℕ) (body rest : List ℕ) where
         edge = at (r + 3) (omega arith) i;
         case = at (r + 4) (omega arith) i;
         rounds = w i;
+      }
+
+-- ── The fields of a loss by their places ──
+
+module _ (r w : ℕ) (l : List ℕ) (i : ℕ) where
+  body-byte : (n k : ℕ) → k ≡ i * w + 1 + n → getD (bodyFrom w l i) n 0 ≡ getD l k 0
+  body-byte n k e = getD-drop (i * w + 1) l n 0 ∙ ap (λ m. getD l m 0) (sym e)
+
+  pub loss-fields : lossAt r w l i
+      ≡ record {
+        position = positionAt r w l i;
+        side = getD l (i * w + (r + 3)) 0;
+        edge = getD l (i * w + (r + 4)) 0;
+        case = getD l (i * w + (r + 5)) 0;
+        rounds = wordAt l (i * w + (r + 6));
+      }
+  unfolding lossAt positionAt lossFrom wordAt
+  loss-fields =
+      let k = i * w + (r + 6) in
+      let rounds : wordAt (bodyFrom w l i) (r + 5) ≡ wordAt l k =
+      cc (
+        body-byte (r + 5) k (omega arith),
+        body-byte (r + 5 + 1) (k + 1) (omega arith),
+        body-byte (r + 5 + 2) (k + 2) (omega arith),
+        body-byte (r + 5 + 3) (k + 3) (omega arith),
+      ) in
+      λ j. record {
+        position = positionAt r w l i;
+        side = body-byte (r + 2) (i * w + (r + 3)) (omega arith) j;
+        edge = body-byte (r + 3) (i * w + (r + 4)) (omega arith) j;
+        case = body-byte (r + 4) (i * w + (r + 5)) (omega arith) j;
+        rounds = rounds j;
       }
 
 -- ── Whole records of one kind ──
@@ -120,6 +152,13 @@ module _ (kind size : ℕ) where
     losses-read r fits = read-each (lossFrom r) (λ body rest e. loss-ahead r body rest (omega arith))
 
 -- ── The test for form ──
+
+-- a record that is not the first comes after the one before it
+pub rises-after : (r w : ℕ) (l : List ℕ) (i : ℕ) → 0 < i
+    → risesAt r w l i ≡ before (positionAt r w l (i - 1)) (positionAt r w l i)
+unfolding risesAt
+rises-after r w l zero h = absurd (omega arith)
+rises-after r w l (suc i) h = let e : suc i - 1 ≡ i = omega arith in rw e
 
 -- positions rise if each comes after the one before it
 rising-by-places : (r w : ℕ) (l : List ℕ) (n : ℕ)

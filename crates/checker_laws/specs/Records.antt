@@ -33,6 +33,11 @@ positions r w l = map (positionAt r w l) (count 0 (recordCount w l))
 unfoldable pub losses : ℕ → ℕ → List ℕ → List Loss
 losses r w l = map (lossAt r w l) (count 0 (recordCount w l))
 
+-- record i is there and has room for a position
+pub record Present (r w : ℕ) (l : List ℕ) (i : ℕ) : Type 0 where
+  pub wide : r + 3 ≤ w
+  pub exists : i < recordCount w l
+
 -- ── Form ──
 
 -- the position of record i comes after that of the record before it, if there is one

@@ -1,22 +1,19 @@
--- The attacks and replies that a check of a certificate tries: replies by their places in a fan, id cases by their numbers,
--- attacks by side, edge and case.
-use Prim.Native.Nat.{ℕ, _+_, _-_}
-use mathlib.Core.Bool.{Bool, _&&_}
+-- The attacks and replies that a check of a certificate tries: replies by their places in a fan, attacks by side, edge and
+-- id case.
+use Prim.Native.Nat.{ℕ, _-_}
+use mathlib.Core.Bool.{Bool, not, _&&_, _||_}
 use mathlib.Core.List.{List, map}
-use lib.ListN.{length}
-use lib.Dec.{eqb}
+use lib.Dec.{ltb}
 use Rattle.fra.specs.Lists.{any, all, keep, count}
-use Rattle.fra.specs.Model.{edgeOf}
-use Rattle.fra.specs.Rules.{modelOf}
-use Rattle.fra.specs.Position.{stateOf}
-use Rattle.fra.specs.Game.{hasCase, cases, replies, after}
-use Rattle.fra.specs.declared.EdgeKind.{EdgeKind}
+use Rattle.fra.specs.Rules.{bisimulation, modelOf}
+use Rattle.fra.specs.Game.{replies, after}
 use Rattle.fra.specs.declared.Position.{Position}
 use Rattle.fra.specs.declared.Task.{Task}
 use Rattle.fra.specs.declared.Side.{Side}
-use Rattle.fra.specs.declared.IdCase.{IdCase}
 use Rattle.fra.specs.declared.Attack.{Attack}
-use Rattle.moves.specs.Cases.{caseAt, hasCaseIn}
+use Rattle.outcome.specs.Certificate.{Loss}
+use Rattle.outcome.specs.Check.{same}
+use Rattle.moves.proofs.Attacks.{edgeAttacks, attacking}
 use Rattle.replies.specs.Fan.{candidateAt}
 use Rattle.replies.specs.Search.{isAnswer, afterReply}
 use Rattle.replies.specs.declared.search.Challenge.{Challenge}
@@ -27,28 +24,27 @@ leadsFrom bytes n i c =
     map (λ j. afterReply c (candidateAt bytes j .target))
     (keep (λ j. isAnswer c (candidateAt bytes j .kind)) (count i (n - i)))
 
--- the id cases of an edge from case number n on, where the other side's state has the register set `others`
-unfoldable pub casesFrom : ℕ → Position → Side → EdgeKind → ℕ → List IdCase
-casesFrom others p s kind n =
-    let r = length (p .partners) in
-    map (caseAt r) (keep (λ k. hasCaseIn others p s kind (caseAt r k)) (count n (length (cases r) - n)))
+-- ── Good positions ──
 
--- ── Attacks that have a reply to a good position ──
+-- the position is listed
+abbrev pub listedIn : List Position → Position → Bool
+listedIn l p = any (same p) l
 
+-- the position is listed with fewer rounds than n
+abbrev pub soonerIn : List Loss → ℕ → Position → Bool
+soonerIn l n p = any (λ x. same p (x .position) && ltb (x .rounds) n) l
+
+-- ── Attacks by side and edge ──
+
+-- some reply to the attack leads to a good position
 unfoldable pub answered : Task → Position → (Position → Bool) → Attack → Bool
 answered t p good a = any (λ k. good (after t p a k)) (replies t p a)
 
--- in each case of edge k of side s
+-- so it is with each attack of edge k of side s, where that is one to attack with
 unfoldable pub edgeAnswered : Task → Position → (Position → Bool) → Side → ℕ → Bool
-edgeAnswered t p good s k =
-    all (λ c. answered t p good (record { side = s; edge = k; case = c }))
-    (keep (hasCase t p s (edgeOf (modelOf t s) k .kind)) (cases (length (p .partners))))
+edgeAnswered t p good s k = all (answered t p good) (edgeAttacks bisimulation t p s k)
 
--- edge k of side s starts in that side's state
-abbrev pub startsAt : Task → Position → Side → ℕ → Bool
-startsAt t p s k = eqb (edgeOf (modelOf t s) k .from) (stateOf p s)
-
--- at each edge of side s that starts in its state
+-- and with each attack of side s
 unfoldable pub sideAnswered : Task → Position → (Position → Bool) → Side → Bool
 sideAnswered t p good s =
-    all (edgeAnswered t p good s) (keep (startsAt t p s) (count 0 (modelOf t s .«edge_count»)))
+    all (λ k. not (attacking bisimulation t p s k) || edgeAnswered t p good s k) (count 0 (modelOf t s .«edge_count»))

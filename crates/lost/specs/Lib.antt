@@ -1,0 +1,2 @@
+-- What the functions answer, in terms of the definitions.
+pub mod Named

@@ -5,3 +5,5 @@ pub mod Marks
 pub mod Marking
 pub mod Lists
 pub mod Records
+pub mod Kept
+pub mod Filling

@@ -1,16 +1,17 @@
 -- A table of the positions reached in which rounds are doubled and some entries marked: it judges positions as "lost within k rounds"
 -- does, its marks are set as the test for marked positions is, and the passes over it mark the positions of the certificate. Assumes
 -- nothing.
-use Prim.Native.Nat.{ℕ, zero, suc, _+_, _*_, _^_, _≤_, _<_}
+use Prim.Native.Nat.{ℕ, zero, suc, _+_, _*_, _-_, _^_, _≤_, _<_}
 use mathlib.Core.Path.{_≡_, refl, sym, _∙_, ap, subst}
 use mathlib.Core.Logic.{_⊎_, inl, inr, ⊎-elim, _↔_}
 use mathlib.Core.Bool.{Bool, true, false, cond, _||_, or-false}
 use mathlib.Core.List.{List, [], _∷_, _++_, List·Memᴰ·head, List·Memᴰ·tail}
 use mathlib.Core.Option.{Option, none, some}
 use native.Mathlib.Omega.{arith}
+use native.Mathlib.Numerals.{add-one}
 use lib.ListN.{length, getD}
 use lib.Dec.{ltb, eqb}
-use borrow.Author.Tests.{ne-eqb}
+use borrow.Author.Tests.{eq-eqb, ne-eqb}
 use borrow.Author.Count.{below-more}
 use Rattle.fra.specs.Lists.{_∈_}
 use Rattle.fra.specs.Rules.{Rules}
@@ -37,12 +38,53 @@ use Rattle.rank_laws.specs.Rows.{rows, roundsAt}
 use Rattle.rank_laws.specs.Winner.{winner}
 use Rattle.rank_laws.proofs.Levels.{level-judges}
 use Rattle.rank_laws.proofs.Winners.{chosen-winner, winner-same}
-use Rattle.certify_laws.specs.Judgement.{fewerAt, lostBefore}
+use Rattle.wins.specs.Judgement.{fewerAt, lostBefore}
+use Rattle.wins.specs.Wins.{winOf}
+use Rattle.wins.specs.declared.Win.the-variants.{By, Nobody}
 use Rattle.certify_laws.specs.Words.{withMark, markedRounds}
 use Rattle.certify_laws.specs.Marking.{markedAt, marked, markedAll, attackBy, ledFrom, stepped, passed, marking}
 use Rattle.certify_laws.proofs.Words.{Few, marked-fits, withMark-marked, marked-below, marked-is}
 use Rattle.certify_laws.proofs.Tables.{place-of-member, place-found, rising-once, table-positions, table-position, table-rounds, table-set}
 use Rattle.certify_laws.proofs.Marks.{also, alsoAll, also-has, rankOf, leads, Marks, marks-more, Done, done-here, done-still, led-lost, marks-fewer}
+
+-- ── Bytes: the table after one entry, and after one pass ──
+
+-- an attack of entry i that was found, or none
+module _ (g : Rules) (t : Task) (n k i : ℕ) (table : List ℕ) where
+  pub led-by : (a : Attack) → winOf (attackBy g t n table k (positionAt table i)) ≡ By a
+      → ledFrom g t n k i table ≡ markedAll n (attackLeads t (positionAt table i) (some a)) table
+  unfolding ledFrom
+  led-by a e = rw (is (attackBy g t n table k (positionAt table i)) e)
+    where
+      is : (o : Option Attack) → winOf o ≡ By a → o ≡ some a
+      is none e = let z : _≡_ {A = ℕ} 0 1 = cc in absurd (omega arith)
+      is (some b) e = cc
+
+  pub led-nowhere : winOf (attackBy g t n table k (positionAt table i)) ≡ Nobody → ledFrom g t n k i table ≡ table
+  unfolding ledFrom attackLeads markedAll
+  led-nowhere e = rw (is (attackBy g t n table k (positionAt table i)) e)
+    where
+      is : (o : Option Attack) → winOf o ≡ Nobody → o ≡ none
+      is none e = refl
+      is (some b) e = let z : _≡_ {A = ℕ} 0 1 = cc in absurd (omega arith)
+
+module _ (g : Rules) (t : Task) (n k i : ℕ) (first table : List ℕ) (e : table ≡ passed g t n k i first) where
+  pub pass-taken : roundsAt table i ≡ k * 2 + 1 → ledFrom g t n k i table ≡ passed g t n k (i + 1) first
+  unfolding passed
+  pass-taken h = rw (add-one, ← e, eq-eqb (roundsAt table i) (k * 2 + 1) h)
+
+  pub pass-left : (roundsAt table i ≡ k * 2 + 1 → ⊥) → table ≡ passed g t n k (i + 1) first
+  unfolding passed
+  pass-left h = rw (add-one, ← e, ne-eqb (roundsAt table i) (k * 2 + 1) h)
+
+-- from k rounds down: k, and then from k - 1 down
+pub marking-step : (g : Rules) (t : Task) (n k : ℕ) (table : List ℕ) → 0 < k
+    → marking g t n k table ≡ marking g t n (k - 1) (passed g t n k n table)
+unfolding marking
+marking-step g t n zero table b = absurd (omega arith)
+marking-step g t n (suc k) table b = let e : suc k - 1 ≡ k = omega arith in rw e
+
+-- ── The positions reached ──
 
 module _ {t : Task} (valid : Valid 6 t) (g : Rules) (few : length (reached g t) < 2 ^ 30) (rest : List ℕ) where
   abbrev l : List Position

@@ -10,14 +10,14 @@ use lib.Dec.{eqb}
 use borrow.Author.Tests.{ne-eqb}
 use Rattle.fra.specs.Lists.{_∈_, keep, count}
 use Rattle.fra.specs.Rules.{Rules}
-use Rattle.fra.specs.Position.{unmatched}
+use Rattle.fra.specs.Position.{Rising, unmatched}
 use Rattle.fra.specs.Reach.{reached, rank, rounds}
 use Rattle.fra.specs.Valid.{Valid}
 use Rattle.fra.specs.declared.Position.{Position}
 use Rattle.fra.specs.declared.Task.{Task}
 use Rattle.fra.specs.declared.Attack.{Attack}
 use Rattle.fra_laws.proofs.Tests.{not-both, fails-unless}
-use Rattle.fra_laws.proofs.Reached.{reached-start}
+use Rattle.fra_laws.proofs.Reached.{reached-start, reached-rising}
 use Rattle.outcome.specs.Bytes.{allOnes}
 use Rattle.outcome.specs.Verdicts.{kindOf, equality}
 use Rattle.outcome.specs.Certificate.{roundsOrNever, isNever, entry, entries, keptRecord, keptPositions, lossRecord, attackOf, lossStep, lossWith, lossOf, losses, certificateBy}
@@ -25,12 +25,14 @@ use Rattle.outcome.specs.declared.Verdict.the-variants.{Equal, Differ}
 use Rattle.outcome_laws.proofs.Written.{listed, rounds-least}
 use Rattle.table_laws.specs.Table.{row, positionAt}
 use Rattle.table_laws.proofs.Records.{at-member}
+use Rattle.table.specs.Places.{placeOf}
 use Rattle.rank_laws.specs.Rows.{rows, roundsAt}
+use Rattle.wins.specs.Judgement.{Searchable}
 use Rattle.certify_laws.specs.Words.{doubled, halved, isMarked, markedRounds}
-use Rattle.certify_laws.specs.Marking.{changed, marked, attackBy, marking, prepared}
+use Rattle.certify_laws.specs.Marking.{changed, roundsIn, roundsFor, marked, attackBy, marking, prepared}
 use Rattle.certify_laws.specs.Records.{isListed, listedPlaces, recordAt, recordsOf}
 use Rattle.certify_laws.proofs.Words.{Few, rounds-fit, never-is, doubled-unmarked, halved-marked, isMarked-marked, isMarked-never, rounds-of-marked}
-use Rattle.certify_laws.proofs.Tables.{tableOf, changed-all, table-position, table-rounds}
+use Rattle.certify_laws.proofs.Tables.{place-found, tableOf, table-room, table-positions, table-position, table-rounds, changed-all}
 use Rattle.certify_laws.proofs.Marks.{also, rankOf, leads, Marks, marks-start, marks-listed, led-lost}
 use Rattle.certify_laws.proofs.Marking.{six, few-rounds, wordOf, word-fits, markedTable, marked-position, marked-rounds, marked-also, attack-found, Marking, marked-down}
 use Rattle.certify_laws.proofs.Lists.{flatMap-map, by-places}
@@ -55,6 +57,27 @@ module _ {t : Task} (valid : Valid 6 t) (g : Rules) (few : length (reached g t) 
   pub entries-rows : entries g t ≡ rows roundsOf (reached g t)
   unfolding entries entry rows row
   entries-rows = refl
+
+  -- ── The table that was ranked ──
+
+  pub ranked-searchable : Searchable N (entries g t ++ rest)
+  ranked-searchable =
+      rw entries-rows
+      (record {
+        room = omega (arith, table-room l rest (six valid g few rest) roundsOf);
+        rising = subst Rising (sym (table-positions l rest (six valid g few rest) roundsOf)) (reached-rising valid g);
+      })
+
+  pub start-rounds : roundsFor N (t .start) (entries g t ++ rest) ≡ roundsOrNever (rounds g t (t .start))
+  unfolding roundsFor rounds
+  start-rounds =
+      let (i, b, e, f) = place-found l z (reached-rising valid g) (reached-start valid g) in
+      ap (λ (m : List ℕ). roundsFor N (t .start) (m ++ rest)) entries-rows
+      ∙ ap (λ (m : List Position). roundsIn (tableOf l rest (six valid g few rest) roundsOf) (placeOf (t .start) m))
+      (table-positions l rest (six valid g few rest) roundsOf)
+      ∙ ap (roundsIn (tableOf l rest (six valid g few rest) roundsOf)) f
+      ∙ table-rounds l rest (six valid g few rest) roundsOf i z b (rounds-fit (rankOf valid g _) (few-rounds valid g few rest _))
+      ∙ ap roundsOf e
 
   -- ── Rounds doubled and halved ──
 

@@ -32,14 +32,14 @@ marked-fits (some k) true few = omega (arith, few k refl)
 marked-fits (some k) false few = omega (arith, few k refl)
 
 pub doubled-unmarked : (o : Option ℕ) → Few o → doubled (roundsOrNever o) ≡ markedRounds o false
-unfolding doubled markedRounds
+unfolding markedRounds
 doubled-unmarked none few = refl
 doubled-unmarked (some k) few =
     let b = few k refl in
     rw (ne-eqb k allOnes (λ e. omega arith)) (omega arith)
 
 pub halved-marked : (o : Option ℕ) (m : Bool) → Few o → halved (markedRounds o m) ≡ roundsOrNever o
-unfolding halved markedRounds
+unfolding markedRounds
 halved-marked none m few = refl
 halved-marked (some k) true few =
     let b = few k refl in
@@ -49,19 +49,19 @@ halved-marked (some k) false few =
     rw (ne-eqb (k * 2) allOnes (λ e. omega arith)) (omega arith)
 
 pub withMark-marked : (o : Option ℕ) (m : Bool) → withMark (markedRounds o m) ≡ markedRounds o true
-unfolding withMark markedRounds
+unfolding markedRounds
 withMark-marked none m = refl
 withMark-marked (some k) true = omega arith
 withMark-marked (some k) false = omega arith
 
 pub isMarked-marked : (k : ℕ) (m : Bool) → k < 2 ^ 30 → isMarked (markedRounds (some k) m) ≡ m
-unfolding isMarked markedRounds
+unfolding markedRounds
 isMarked-marked k true b =
     rw (eq-eqb ((k * 2 + 1) % 2) 1 (omega arith), ne-eqb (k * 2 + 1) allOnes (λ e. omega arith))
 isMarked-marked k false b = rw (ne-eqb (k * 2 % 2) 1 (λ e. omega arith))
 
 pub isMarked-never : (m : Bool) → isMarked (markedRounds none m) ≡ false
-unfolding isMarked markedRounds
+unfolding markedRounds
 isMarked-never m = refl
 
 pub rounds-of-marked : (k : ℕ) (m : Bool) → markedRounds (some k) m / 2 ≡ k

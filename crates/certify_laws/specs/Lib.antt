@@ -1,5 +1,4 @@
 -- What is done to a table, and read from it, where a certificate is written.
-pub mod Judgement
 pub mod Words
 pub mod Marking
 pub mod Records

@@ -8,6 +8,7 @@ use Rattle.fra.specs.Rules.{Rules}
 use Rattle.fra.specs.declared.Position.{Position}
 use Rattle.fra.specs.declared.Task.{Task}
 use Rattle.fra.specs.declared.Attack.{Attack}
+use Rattle.outcome.specs.Bytes.{allOnes}
 use Rattle.outcome.specs.Certificate.{attackLeads}
 use Rattle.table_laws.specs.Table.{putWord, positionAt, positions}
 use Rattle.table.specs.Places.{placeOf}
@@ -15,7 +16,7 @@ use Rattle.table.specs.declared.Place.{Place}
 use Rattle.table.specs.declared.Place.the-variants.{At, Nowhere}
 use Rattle.rank_laws.specs.Rows.{roundsAt}
 use Rattle.rank_laws.specs.Winner.{winner}
-use Rattle.certify_laws.specs.Judgement.{lostBefore}
+use Rattle.wins.specs.Judgement.{lostBefore}
 use Rattle.certify_laws.specs.Words.{doubled, withMark}
 
 -- ── The rounds of entries ──
@@ -28,6 +29,14 @@ changedAt f i table = putWord table (i * 12 + 8) (f (roundsAt table i))
 unfoldable pub changed : (ℕ → ℕ) → ℕ → List ℕ → List ℕ
 changed f zero table = table
 changed f (suc n) table = changedAt f n (changed f n table)
+
+-- those of a position among the first n entries
+abbrev pub roundsIn : List ℕ → Place → ℕ
+roundsIn table (At i) = roundsAt table i
+roundsIn table Nowhere = allOnes
+
+unfoldable pub roundsFor : ℕ → Position → List ℕ → ℕ
+roundsFor n q table = roundsIn table (placeOf q (positions n table))
 
 -- ── Marks ──
 

@@ -22,6 +22,11 @@ abbrev pub isListed : Verdict → ℕ → Bool
 isListed Equal w = eqb w allOnes
 isListed Differ w = isMarked w
 
+-- the bytes of a record
+abbrev pub recordSize : Verdict → ℕ
+recordSize Equal = 9
+recordSize Differ = 16
+
 -- those of the first n entries that have one
 unfoldable pub listedPlaces : Verdict → ℕ → List ℕ → List ℕ
 listedPlaces v n table = keep (λ i. isListed v (roundsAt table i)) (count 0 n)

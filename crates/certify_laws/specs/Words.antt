@@ -6,16 +6,16 @@ use lib.Dec.{eqb}
 use Rattle.outcome.specs.Bytes.{allOnes}
 
 -- no rounds reach 2 ^ 31, so that nothing is lost here
-unfoldable pub doubled : ℕ → ℕ
+abbrev pub doubled : ℕ → ℕ
 doubled w = cond (eqb w allOnes) w (w % 2 ^ 31 * 2)
 
-unfoldable pub halved : ℕ → ℕ
+abbrev pub halved : ℕ → ℕ
 halved w = cond (eqb w allOnes) w (w / 2)
 
-unfoldable pub withMark : ℕ → ℕ
+abbrev pub withMark : ℕ → ℕ
 withMark w = w - w % 2 + 1
 
-unfoldable pub isMarked : ℕ → Bool
+abbrev pub isMarked : ℕ → Bool
 isMarked w = eqb (w % 2) 1 && not (eqb w allOnes)
 
 -- the rounds of a position, if it is lost, with or without a mark

@@ -1,0 +1,4 @@
+-- Lemmas that the proofs of the functions share.
+pub mod Parts
+pub mod Outcomes
+pub mod Certificates

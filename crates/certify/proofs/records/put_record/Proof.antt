@@ -1,0 +1,49 @@
+-- `certify::records::put_record` meets its contract, verdict by verdict. Assumes nothing.
+use mathlib.Core.Path.{_≡_}
+use native.Mathlib.Omega.{arith}
+use borrow.Author.Needs.{needs}
+use Rattle.certify_laws.specs.Records.{recordAt}
+use Rattle.certify.proofs.records.put_record.Statement.{statement}
+use Rattle.certify.proofs.records.put_record.Tie as tie
+
+enum-told : tie.Need-enum-told
+enum-told c = search needs
+
+put-head-requires : tie.Need-put-head-requires
+put-head-requires c κs =
+    let start = c .before .before .before .before .before in
+    (omega (arith, start .pre .0 .room, start .pre .1 .1 .0), rw (c .before .enum-told .given .1) at (start .pre .1 .1 .1))
+
+enum-told-2 : tie.Need-enum-told-2
+enum-told-2 c = search needs
+
+put-loss-requires : tie.Need-put-loss-requires
+put-loss-requires c κs =
+    let start = c .before .before .before .before .before in
+    (start .pre .0, (start .pre .1 .0, (start .pre .1 .1 .0, rw (c .before .enum-told2 .given .1) at (start .pre .1 .1 .1))))
+
+same-length : tie.Need-same-length
+same-length c = search needs
+
+returns : tie.Need-returns
+unfolding recordAt
+returns c = let done = c .before .before in rw (done .before .before .enum-told .given .1) (done .put-head .ensures)
+
+same-length-2 : tie.Need-same-length-2
+same-length-2 c = search needs
+
+returns-2 : tie.Need-returns-2
+returns-2 c = let done = c .before .before in rw (done .before .before .enum-told2 .given .1) (done .put-loss .ensures)
+
+pub put-record-spec : {M : Type 1} → statement M
+put-record-spec =
+    tie.close
+    (tie.spec
+    enum-told
+    put-head-requires
+    enum-told-2
+    put-loss-requires
+    same-length
+    returns
+    same-length-2
+    returns-2)

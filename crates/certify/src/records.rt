@@ -1,0 +1,134 @@
+// The bytes of a certificate's records (01, "Verdict, table, certificate").
+use fra::IdCase;
+use fra::Side;
+use fra::Task;
+use leads::attack_of;
+use outcome::Verdict;
+use table::ENTRY;
+use table::position_at;
+use table::put_word;
+use table::word_at;
+use wins::Win;
+ghost use Prim.Native.Nat.{_+_, _*_, _≤_, _<_};
+ghost use mathlib.Core.Path.{_≡_};
+ghost use lib.ListN.{length};
+ghost use lib.Seq.{sets};
+ghost use Rattle.fra.specs.Rules.{bisimulation};
+ghost use Rattle.fra.specs.Valid.{Valid};
+ghost use Rattle.outcome.specs.Certificate.{sideNumber, caseNumber, keptRecord};
+ghost use Rattle.table_laws.specs.Table.{positionAt};
+ghost use Rattle.outcome.specs.declared.Verdict.the-variants.{Differ};
+ghost use Rattle.wins.specs.Judgement.{Searchable};
+ghost use Rattle.certify_laws.specs.Records.{recordSize, recordAt};
+ghost use Rattle.certify.specs.Fields.{attackBytes};
+
+// The kind bytes and widths of records of positions that are never lost, and of positions that are.
+pub const KEPT_KIND: u8 = 16;
+
+pub const KEPT_WIDTH: usize = 9;
+
+pub const LOST_KIND: u8 = 17;
+
+pub const LOST_WIDTH: usize = 16;
+
+// Where an attack and the rounds stand in a record.
+pub const ATTACK: usize = 9;
+
+pub const ROUNDS: usize = 12;
+
+fn side_number(side: Side) -> u8
+    ensures { λ r. ⌜ r ≡ sideNumber side ⌝ }
+{
+    match side {
+        Side::Left => 1,
+        Side::Right => 2,
+    }
+}
+
+fn case_number(case: IdCase) -> u8
+    ensures { λ r. ⌜ r ≡ caseNumber 6 case ⌝ }
+{
+    match case {
+        IdCase::Held => 0,
+        IdCase::Private(j) => j,
+        IdCase::Seen => 7,
+        IdCase::New => 8,
+    }
+}
+
+// Writes a kind and the position of entry i.
+pub fn put_head(table: &[u8], i: usize, kind: u8, buffer: &mut [u8], at: usize)
+    requires { ⌜ i * 12 + 12 ≤ length (now table) ⌝ }
+    requires { ⌜ at + 9 ≤ length (now buffer) ⌝ }
+    ensures { λ _. ⌜ now (buffer .exit) ≡ sets (now (buffer .entry)) at (keptRecord kind (positionAt (now (table .entry)) i)) ⌝ }
+{
+    buffer[at] = kind;
+    put_word(buffer, at + 1, word_at(table, i * ENTRY));
+    put_word(buffer, at + 5, word_at(table, i * ENTRY + 4));
+}
+
+// Writes the side, edge and case of an attack, or zeros where there is none.
+pub fn put_attack(buffer: &mut [u8], at: usize, attack: Win)
+    requires { ⌜ at + 3 ≤ length (now buffer) ⌝ }
+    ensures { λ _. ⌜ now (buffer .exit) ≡ sets (now (buffer .entry)) at (attackBytes attack) ⌝ }
+{
+    match attack {
+        Win::By(a) => {
+            let side = a.side;
+            let case = a.case;
+            buffer[at] = side_number(side);
+            buffer[at + 1] = a.edge;
+            buffer[at + 2] = case_number(case);
+        }
+        Win::Nobody => {
+            buffer[at] = 0;
+            buffer[at + 1] = 0;
+            buffer[at + 2] = 0;
+        }
+    }
+}
+
+// Writes the record of entry i, a lost position, whose rounds are doubled in the table.
+fn put_loss(table: &[u8], n: usize, t: Task, i: usize, buffer: &mut [u8], at: usize)
+    requires { ⌜ Searchable n (now table) ⌝ }
+    requires { ⌜ Valid 6 t ⌝ }
+    requires { ⌜ (i < n) × (at + 16 ≤ length (now buffer)) ⌝ }
+    ensures { λ _. ⌜ now (buffer .exit) ≡ sets (now (buffer .entry)) at (recordAt bisimulation t Differ n (now (table .entry)) i) ⌝ }
+{
+    let rounds = word_at(table, i * ENTRY + table::ROUNDS) / 2;
+    let attack = attack_of(table, n, t, position_at(table, i), rounds);
+    put_head(table, i, LOST_KIND, buffer, at);
+    put_attack(buffer, at + ATTACK, attack);
+    put_word(buffer, at + ROUNDS, rounds);
+}
+
+// Writes the record of entry i.
+pub fn put_record(
+    table: &[u8],
+    n: usize,
+    t: Task,
+    verdict: Verdict,
+    i: usize,
+    buffer: &mut [u8],
+    at: usize,
+)
+    requires { ⌜ Searchable n (now table) ⌝ }
+    requires { ⌜ Valid 6 t ⌝ }
+    requires { ⌜ (i < n) × (at + recordSize verdict ≤ length (now buffer)) ⌝ }
+    ensures { λ _. ⌜ now (buffer .exit) ≡ sets (now (buffer .entry)) at (recordAt bisimulation t verdict n (now (table .entry)) i) ⌝ }
+{
+    match verdict {
+        Verdict::Equal => put_head(table, i, KEPT_KIND, buffer, at),
+        Verdict::Differ => put_loss(table, n, t, i, buffer, at),
+    }
+}
+
+// The width of a record.
+pub fn width(verdict: Verdict) -> usize
+    ensures { λ r. ⌜ r ≡ recordSize verdict ⌝ }
+{
+    match verdict {
+        Verdict::Equal => KEPT_WIDTH,
+        Verdict::Differ => LOST_WIDTH,
+    }
+}

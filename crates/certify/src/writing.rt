@@ -1,0 +1,53 @@
+// The records of all entries that have one, written if they fit.
+use crate::Certified;
+use crate::records::put_record;
+use crate::records::width;
+use fra::Task;
+use marks::count_listed;
+use marks::is_listed;
+use outcome::Verdict;
+use table::ENTRY;
+use table::ROUNDS;
+use table::word_at;
+ghost use Prim.Native.Nat.{_^_, _≤_, _<_};
+ghost use mathlib.Core.Path.{_≡_};
+ghost use lib.ListN.{length};
+ghost use lib.Seq.{sets};
+ghost use Rattle.fra.specs.Rules.{bisimulation};
+ghost use Rattle.fra.specs.Valid.{Valid};
+ghost use Rattle.wins.specs.Judgement.{Searchable};
+ghost use Rattle.certify_laws.specs.Records.{recordsOf};
+ghost use Rattle.certify.specs.Outcome.{Certifies};
+
+// Writes the records from the buffer's start.
+fn put_records(table: &[u8], n: usize, t: Task, verdict: Verdict, buffer: &mut [u8])
+    requires { ⌜ Searchable n (now table) ⌝ }
+    requires { ⌜ Valid 6 t ⌝ }
+    requires { ⌜ length (recordsOf bisimulation t verdict n (now table)) ≤ length (now buffer) ⌝ }
+    ensures { λ _. ⌜ now (buffer .exit) ≡ sets (now (buffer .entry)) 0 (recordsOf bisimulation t verdict n (now (table .entry))) ⌝ }
+{
+    let mut at = 0;
+    let mut i = 0;
+    while i < n {
+        if is_listed(verdict, word_at(table, i * ENTRY + ROUNDS)) {
+            put_record(table, n, t, verdict, i, buffer, at);
+            at += width(verdict);
+        }
+        i += 1;
+    }
+}
+
+// Writes the records, counted first, if they fit.
+pub fn write(table: &[u8], n: usize, t: Task, verdict: Verdict, buffer: &mut [u8]) -> Certified
+    requires { ⌜ Searchable n (now table) ⌝ }
+    requires { ⌜ Valid 6 t ⌝ }
+    requires { ⌜ n < 2 ^ 30 ⌝ }
+    ensures { λ r. ⌜ Certifies (recordsOf bisimulation t verdict n (now (table .entry))) (now (table .entry)) (now (buffer .entry)) r (now (table .entry)) (now (buffer .exit)) ⌝ }
+{
+    let length = count_listed(table, n, verdict) * width(verdict);
+    if buffer.len() < length {
+        return Certified::TooLong;
+    }
+    put_records(table, n, t, verdict, buffer);
+    Certified::Length(length)
+}

@@ -1,5 +1,5 @@
 -- The records that are written by a ranked table are the certificate, and the table is restored. Assumes nothing.
-use Prim.Native.Nat.{ℕ, _^_, _≤_, _<_}
+use Prim.Native.Nat.{ℕ, _^_, _<_}
 use mathlib.Core.Path.{_≡_, refl, sym, _∙_, ap}
 use mathlib.Core.List.{List}
 use mathlib.Core.Option.{Option, none, some}
@@ -12,7 +12,6 @@ use Rattle.fra.specs.declared.Task.{Task}
 use Rattle.fra_laws.proofs.Reached.{reached-unique, reached-legal}
 use Rattle.fra_laws.proofs.Count.{most-positions}
 use Rattle.outcome.specs.Bytes.{allOnes}
-use Rattle.outcome.specs.Verdicts.{equality}
 use Rattle.outcome.specs.Certificate.{roundsOrNever, certificateBy}
 use Rattle.outcome.specs.declared.Verdict.the-variants.{Equal, Differ}
 use Rattle.outcome_laws.proofs.Written.{rounds-least}

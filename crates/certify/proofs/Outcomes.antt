@@ -1,6 +1,6 @@
 -- A certificate that fits its buffer, and one that does not: what is answered, and what an answer tells. Assumes nothing.
 use Prim.Native.Nat.{ℕ, _≤_, _<_}
-use mathlib.Core.Path.{_≡_, refl, sym, _∙_}
+use mathlib.Core.Path.{_≡_, refl, _∙_}
 use mathlib.Core.Bool.{Bool, true, false}
 use mathlib.Core.List.{List}
 use native.Mathlib.Omega.{arith}
@@ -15,7 +15,6 @@ use Rattle.outcome.specs.Verdicts.{equality}
 use Rattle.outcome.specs.Certificate.{entries}
 use Rattle.outcome.specs.Compare.{Outcome, decided, refusedLate, judge}
 use Rattle.certify.specs.Outcome.{certificateOf, answerOf, bufferAfter, Certifies}
-use Rattle.certify.specs.declared.Certified.{Certified}
 use Rattle.certify.specs.declared.Certified.the-variants.{Length, TooLong}
 
 module _ (certificate table buffer : List ℕ) where

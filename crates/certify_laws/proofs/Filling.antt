@@ -3,25 +3,23 @@ use Prim.Native.Nat.{ℕ, zero, suc, _+_, _*_, _≤_, _<_}
 use mathlib.Core.Path.{_≡_, refl, sym, _∙_, ap, subst}
 use mathlib.Core.Bool.{Bool, true, false}
 use mathlib.Core.List.{List, [], _∷_, _++_, flatMap, append-nil}
-use mathlib.Core.Option.{Option, none, some}
 use native.Mathlib.Omega.{arith}
 use native.Mathlib.Numerals.{add-one}
 use native.Mathlib.Nat.{zero-add}
 use native.Mathlib.Decide.{le-ind}
 use lib.ListN.{length, drop, length-append, length-drop}
 use lib.Seq.{sets, sets-eq, length-sets, length-take-le}
-use Rattle.fra.specs.Lists.{_∈_, keep, count}
+use Rattle.fra.specs.Lists.{keep, count}
 use Rattle.fra.specs.Rules.{Rules}
 use Rattle.fra.specs.Position.{bytes}
 use Rattle.fra.specs.declared.Position.{Position}
 use Rattle.fra.specs.declared.Task.{Task}
-use Rattle.fra.specs.declared.Attack.{Attack}
 use Rattle.fra_laws.proofs.Lists.{keep-elim, count-elim}
 use Rattle.fra_laws.proofs.Lengths.{flatMap-length}
 use Rattle.outcome.specs.Bytes.{word, thenRest}
 use Rattle.outcome.specs.Check.{positionOf}
 use Rattle.outcome.specs.Verdicts.{kindOf}
-use Rattle.outcome.specs.Certificate.{Loss, keptRecord, lossRecord, lossWith}
+use Rattle.outcome.specs.Certificate.{Loss, keptRecord, lossRecord}
 use Rattle.outcome.specs.declared.Verdict.{Verdict}
 use Rattle.outcome.specs.declared.Verdict.the-variants.{Equal, Differ}
 use Rattle.outcome_laws.proofs.Written.{loss-position}

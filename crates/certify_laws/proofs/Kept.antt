@@ -1,11 +1,10 @@
 -- New rounds leave a table its length and its positions, so that they can be looked up all the while. Assumes nothing.
 use Prim.Native.Nat.{ℕ, zero, suc, _+_, _*_, _≤_, _<_}
-use mathlib.Core.Path.{_≡_, refl, sym, _∙_, ap, subst}
-use mathlib.Core.Logic.{_⊎_, inl, inr}
+use mathlib.Core.Path.{_≡_, refl, sym, _∙_, subst}
+use mathlib.Core.Logic.{inl, inr}
 use mathlib.Core.Bool.{Bool, true, false, cond}
 use mathlib.Core.List.{List, [], _∷_, map}
 use native.Mathlib.Omega.{arith}
-use native.Mathlib.Nat.{add-zero}
 use native.Mathlib.Decide.{decLe}
 use lib.ListN.{length, getD, take, drop, length-take, length-drop}
 use lib.Dec.{eqb}
@@ -17,7 +16,6 @@ use Rattle.fra.specs.declared.Position.{Position}
 use Rattle.fra.specs.declared.Task.{Task}
 use Rattle.outcome.specs.Bytes.{word}
 use Rattle.outcome.specs.Check.{positionOf}
-use Rattle.outcome.specs.Certificate.{attackLeads}
 use Rattle.table_laws.specs.Table.{putWord, positionAt, positions}
 use Rattle.table_laws.proofs.Words.{put-other}
 use Rattle.table_laws.proofs.Search.{positions-length}
@@ -28,7 +26,7 @@ use Rattle.rank_laws.specs.Rows.{roundsAt}
 use Rattle.wins.specs.Judgement.{Searchable}
 use Rattle.wins.proofs.Judging.{place-within}
 use Rattle.certify_laws.specs.Words.{doubled, withMark}
-use Rattle.certify_laws.specs.Marking.{changedAt, changed, markedAt, marked, markedAll, attackBy, ledFrom, passed, marking, prepared}
+use Rattle.certify_laws.specs.Marking.{changedAt, changed, markedAt, marked, markedAll, ledFrom, passed, marking, prepared}
 
 -- ── One entry ──
 

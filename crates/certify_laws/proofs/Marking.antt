@@ -3,8 +3,8 @@
 -- nothing.
 use Prim.Native.Nat.{ℕ, zero, suc, _+_, _*_, _-_, _^_, _≤_, _<_}
 use mathlib.Core.Path.{_≡_, refl, sym, _∙_, ap, subst}
-use mathlib.Core.Logic.{_⊎_, inl, inr, ⊎-elim, _↔_}
-use mathlib.Core.Bool.{Bool, true, false, cond, _||_, or-false}
+use mathlib.Core.Logic.{_↔_}
+use mathlib.Core.Bool.{Bool, true, false, or-false}
 use mathlib.Core.List.{List, [], _∷_, _++_, List·Memᴰ·head, List·Memᴰ·tail}
 use mathlib.Core.Option.{Option, none, some}
 use native.Mathlib.Omega.{arith}
@@ -17,7 +17,7 @@ use Rattle.fra.specs.Lists.{_∈_}
 use Rattle.fra.specs.Rules.{Rules}
 use Rattle.fra.specs.Position.{unmatched}
 use Rattle.fra.specs.Game.{lostWithin}
-use Rattle.fra.specs.Reach.{Closure, onward, reached, rank, rounds}
+use Rattle.fra.specs.Reach.{onward, reached, rounds}
 use Rattle.fra.specs.Valid.{Valid}
 use Rattle.fra.specs.declared.Position.{Position}
 use Rattle.fra.specs.declared.Task.{Task}
@@ -27,7 +27,7 @@ use Rattle.fra_laws.proofs.Legal.{legal-facts}
 use Rattle.fra_laws.proofs.Reached.{reached-rising, reached-legal, reached-after}
 use Rattle.fra_laws.proofs.Rounds.{rank-some}
 use Rattle.outcome.specs.Check.{same}
-use Rattle.outcome.specs.Certificate.{chosen, attackOf, attackLeads, lossStep}
+use Rattle.outcome.specs.Certificate.{attackOf, attackLeads, lossStep}
 use Rattle.outcome_laws.proofs.Accepted.{same-passes}
 use Rattle.table_laws.specs.Table.{putWord, positionAt, positions}
 use Rattle.table_laws.proofs.Records.{at-member}
@@ -35,7 +35,6 @@ use Rattle.table.specs.Places.{placeOf}
 use Rattle.table.specs.declared.Place.the-variants.{At}
 use Rattle.rank_laws.specs.Levels.{level}
 use Rattle.rank_laws.specs.Rows.{rows, roundsAt}
-use Rattle.rank_laws.specs.Winner.{winner}
 use Rattle.rank_laws.proofs.Levels.{level-judges}
 use Rattle.rank_laws.proofs.Winners.{chosen-winner, winner-same}
 use Rattle.wins.specs.Judgement.{fewerAt, lostBefore}

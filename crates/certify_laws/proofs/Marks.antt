@@ -2,7 +2,7 @@
 -- then those marked are the positions of the certificate. For any rules and register count. Assumes nothing.
 use Prim.Native.Nat.{ℕ, zero, suc, _≤_, _<_}
 use mathlib.Core.Path.{_≡_, refl, sym, _∙_, ap, subst}
-use mathlib.Core.Logic.{_⊎_, inl, inr, ⊎-elim, _↔_}
+use mathlib.Core.Logic.{_⊎_, inl, inr, ⊎-elim}
 use mathlib.Core.Bool.{Bool, true, false, _||_, false≢true}
 use mathlib.Core.List.{List, [], _∷_, List·Memᴰ·head, List·Memᴰ·tail, List·Memᴰ·not-nil, List·Memᴰ·cases-cons, Memᴰ·of-map}
 use mathlib.Core.Option.{Option, none, some}
@@ -20,7 +20,7 @@ use Rattle.fra.specs.declared.Attack.{Attack}
 use Rattle.fra_laws.proofs.Tests.{or-cases, or-left, or-right}
 use Rattle.fra_laws.proofs.Lists.{all-at, keep-intro, keep-elim, first-found}
 use Rattle.fra_laws.proofs.Closure.{closure-keeps}
-use Rattle.fra_laws.proofs.Reached.{reached-rising, reached-after}
+use Rattle.fra_laws.proofs.Reached.{reached-rising}
 use Rattle.fra_laws.proofs.Rounds.{rank-some, rank-least}
 use Rattle.outcome.specs.Check.{same}
 use Rattle.outcome.specs.Certificate.{wins, chosen, attackOf, attackLeads, lossStep}

@@ -1,39 +1,36 @@
 -- The records that are written by the entries of a table are the certificate, and the table is restored. Assumes nothing.
-use Prim.Native.Nat.{ℕ, zero, suc, _+_, _*_, _/_, _^_, _≤_, _<_}
+use Prim.Native.Nat.{ℕ, _+_, _/_, _^_, _<_}
 use mathlib.Core.Path.{_≡_, refl, sym, _∙_, ap, subst}
-use mathlib.Core.Bool.{Bool, true, false}
-use mathlib.Core.List.{List, [], _∷_, _++_, map, flatMap}
+use mathlib.Core.Bool.{Bool, false}
+use mathlib.Core.List.{List, _++_, flatMap}
 use mathlib.Core.Option.{Option, none, some}
 use native.Mathlib.Omega.{arith}
 use lib.ListN.{length, getD}
 use lib.Dec.{eqb}
-use borrow.Author.Tests.{ne-eqb}
-use Rattle.fra.specs.Lists.{_∈_, keep, count}
+use Rattle.fra.specs.Lists.{_∈_}
 use Rattle.fra.specs.Rules.{Rules}
 use Rattle.fra.specs.Position.{Rising, unmatched}
-use Rattle.fra.specs.Reach.{reached, rank, rounds}
+use Rattle.fra.specs.Reach.{reached, rounds}
 use Rattle.fra.specs.Valid.{Valid}
 use Rattle.fra.specs.declared.Position.{Position}
 use Rattle.fra.specs.declared.Task.{Task}
-use Rattle.fra.specs.declared.Attack.{Attack}
-use Rattle.fra_laws.proofs.Tests.{not-both, fails-unless}
+use Rattle.fra_laws.proofs.Tests.{fails-unless}
 use Rattle.fra_laws.proofs.Reached.{reached-start, reached-rising}
 use Rattle.outcome.specs.Bytes.{allOnes}
-use Rattle.outcome.specs.Verdicts.{kindOf, equality}
-use Rattle.outcome.specs.Certificate.{roundsOrNever, isNever, entry, entries, keptRecord, keptPositions, lossRecord, attackOf, lossStep, lossWith, lossOf, losses, certificateBy}
+use Rattle.outcome.specs.Verdicts.{kindOf}
+use Rattle.outcome.specs.Certificate.{roundsOrNever, isNever, entry, entries, keptRecord, keptPositions, lossRecord, lossWith, lossOf, losses}
 use Rattle.outcome.specs.declared.Verdict.the-variants.{Equal, Differ}
 use Rattle.outcome_laws.proofs.Written.{listed, rounds-least}
-use Rattle.table_laws.specs.Table.{row, positionAt}
-use Rattle.table_laws.proofs.Records.{at-member}
+use Rattle.table_laws.specs.Table.{row}
 use Rattle.table.specs.Places.{placeOf}
-use Rattle.rank_laws.specs.Rows.{rows, roundsAt}
+use Rattle.rank_laws.specs.Rows.{rows}
 use Rattle.wins.specs.Judgement.{Searchable}
 use Rattle.certify_laws.specs.Words.{doubled, halved, isMarked, markedRounds}
-use Rattle.certify_laws.specs.Marking.{changed, roundsIn, roundsFor, marked, attackBy, marking, prepared}
-use Rattle.certify_laws.specs.Records.{isListed, listedPlaces, recordAt, recordsOf}
-use Rattle.certify_laws.proofs.Words.{Few, rounds-fit, never-is, doubled-unmarked, halved-marked, isMarked-marked, isMarked-never, rounds-of-marked}
+use Rattle.certify_laws.specs.Marking.{changed, roundsIn, roundsFor, attackBy, prepared}
+use Rattle.certify_laws.specs.Records.{listedPlaces, recordAt, recordsOf}
+use Rattle.certify_laws.proofs.Words.{rounds-fit, never-is, doubled-unmarked, halved-marked, isMarked-marked, isMarked-never, rounds-of-marked}
 use Rattle.certify_laws.proofs.Tables.{place-found, tableOf, table-room, table-positions, table-position, table-rounds, changed-all}
-use Rattle.certify_laws.proofs.Marks.{also, rankOf, leads, Marks, marks-start, marks-listed, led-lost}
+use Rattle.certify_laws.proofs.Marks.{also, rankOf, Marks, marks-start, marks-listed, led-lost}
 use Rattle.certify_laws.proofs.Marking.{six, few-rounds, wordOf, word-fits, markedTable, marked-position, marked-rounds, marked-also, attack-found, Marking, marked-down}
 use Rattle.certify_laws.proofs.Lists.{flatMap-map, by-places}
 

@@ -1,24 +1,21 @@
 -- A table that begins with the entries of positions that rise: how it is read, and what is left of it when rounds are changed in one
 -- entry or in all. Assumes nothing.
 use Prim.Native.Nat.{ℕ, zero, suc, _+_, _*_, _-_, _^_, _≤_, _<_}
-use mathlib.Core.Path.{_≡_, refl, sym, _∙_, ap, subst}
+use mathlib.Core.Path.{_≡_, refl, sym, _∙_, ap}
 use mathlib.Core.Logic.{⊎-elim}
 use mathlib.Core.Bool.{true, false}
-use mathlib.Core.List.{List, [], _∷_, _++_, map, flatMap, List·Memᴰ·head, List·Memᴰ·tail}
+use mathlib.Core.List.{List, _++_, List·Memᴰ·head, List·Memᴰ·tail}
 use native.Mathlib.Omega.{arith}
 use native.Mathlib.Nat.{zero-add, add-zero, add-suc}
-use native.Mathlib.Decide.{ℕ-discrete, decLt}
-use lib.ListN.{length, getD, set, length-map, length-set, List·getD-map}
-use lib.Seq.{ext-getD, getD-set-same, getD-set-other, sets}
+use native.Mathlib.Decide.{decLt}
+use lib.ListN.{length, getD}
 use Rattle.fra.specs.Lists.{_∈_}
 use Rattle.fra.specs.Position.{Rising, before, unmatched}
 use Rattle.fra.specs.declared.Position.{Position}
 use Rattle.fra_laws.proofs.Tests.{not-both}
 use Rattle.fra_laws.proofs.Order.{before-irreflexive}
-use Rattle.outcome.specs.Bytes.{word}
-use Rattle.table_laws.specs.Table.{putWord, row, positionAt, positions}
-use Rattle.table_laws.proofs.Records.{Wide, at-member, record-write}
-use Rattle.table_laws.proofs.Rows.{row-length}
+use Rattle.table_laws.specs.Table.{putWord, positionAt, positions}
+use Rattle.table_laws.proofs.Records.{at-member}
 use Rattle.table_laws.proofs.Search.{rising-at}
 use Rattle.table.specs.Places.{placeOf}
 use Rattle.table.specs.declared.Place.the-variants.{At}

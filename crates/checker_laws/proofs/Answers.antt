@@ -3,7 +3,7 @@ use Prim.Native.Nat.{ℕ, suc, _<_}
 use mathlib.Core.Path.{_≡_, refl, sym, _∙_, ap}
 use mathlib.Core.Logic.{_≢_}
 use mathlib.Core.Bool.{false}
-use mathlib.Core.List.{List, [], _∷_, map, map-map}
+use mathlib.Core.List.{List, [], _∷_, map-map}
 use mathlib.Core.Option.{Option, none, some}
 use native.Mathlib.Omega.{arith}
 use lib.ListN.{length, getD}
@@ -11,12 +11,11 @@ use borrow.Author.Tests.{eq-eqb, ne-eqb}
 use Rattle.fra.specs.declared.Task.{Task}
 use Rattle.outcome.specs.Verdicts.{Contest, kindOf}
 use Rattle.outcome.specs.Certificate.{Loss}
-use Rattle.outcome.specs.Check.{positionOf, lossFrom, keptLength, lossLength, bodies, orderly, keptAccepted, lossesAccepted, startRounds, judgeList, checkKept, checkLosses, checkTask}
+use Rattle.outcome.specs.Check.{lossFrom, keptLength, lossLength, bodies, judgeList, checkKept, checkLosses, checkTask}
 use Rattle.outcome.specs.Refusals.{records}
-use Rattle.outcome.specs.declared.Check.{Check}
 use Rattle.outcome.specs.declared.Check.the-variants.{Refused}
 use Rattle.outcome_laws.proofs.Bodies.{Whole, bodies-some, bodies-none}
-use Rattle.checker_laws.specs.Records.{positions, losses, formed}
+use Rattle.checker_laws.specs.Records.{formed}
 use Rattle.checker_laws.specs.Answers.{keptAnswer, lossAnswer}
 use Rattle.checker_laws.proofs.Records.{positions-read, losses-read, formed-whole, formed-stops}
 

@@ -1,31 +1,27 @@
 -- Records by their places are what the checker takes for records, and its test for form passes exactly where they are whole
 -- records of one kind whose positions are in order. Assumes nothing.
-use Prim.Native.Nat.{ℕ, zero, suc, _+_, _-_, _*_, _/_, _%_, _≤_, _<_}
-use mathlib.Core.Path.{_≡_, refl, sym, _∙_, ap, ap₂}
+use Prim.Native.Nat.{ℕ, zero, suc, _+_, _-_, _*_, _%_, _≤_, _<_}
+use mathlib.Core.Path.{_≡_, refl, sym, _∙_, ap}
 use mathlib.Core.Logic.{inl, inr}
-use mathlib.Core.Bool.{Bool, true, false, _&&_}
+use mathlib.Core.Bool.{true, false, _&&_}
 use mathlib.Core.List.{List, [], _∷_, _++_, map, flatMap, List·Memᴰ·head, List·Memᴰ·tail}
-use mathlib.Core.Option.{Option, none, some}
 use native.Mathlib.Nat.{zero-mul, suc-mul, zero-add, add-comm, add-zero, mul-div-cancel, mul-mod-left, mul-add-mod-self-right, mod-eq-of-lt, le-div-iff-mul-le}
-use native.Mathlib.Numerals.{add-one}
 use native.Mathlib.Omega.{arith}
 use native.Mathlib.Decide.{ℕ-discrete, decLt}
 use lib.ListN.{length, getD, take, drop, length-append, length-drop, List·getD-append}
 use lib.Seq.{drop-nil, drop-cons, drop-at, drop-drop, getD-drop, getD-at, take-append-le, drop-append-le}
 use lib.Dec.{eqb}
 use borrow.Author.Tests.{eq-eqb, eqb-true}
-use Rattle.fra.specs.Lists.{_∈_, all, count}
+use Rattle.fra.specs.Lists.{all, count}
 use Rattle.fra.specs.Position.{legal, before}
-use Rattle.fra.specs.declared.Position.{Position}
 use Rattle.fra.specs.declared.Task.{Task}
 use Rattle.fra_laws.proofs.Tests.{and-left, and-right, fails-unless}
 use Rattle.fra_laws.proofs.Lists.{all-at, count-intro, count-elim}
 use Rattle.fra_laws.proofs.Order.{before-transitive}
 use Rattle.outcome.specs.Bytes.{wordAt}
-use Rattle.outcome.specs.Certificate.{Loss}
-use Rattle.outcome.specs.Check.{positionOf, lossFrom, bodies, rising, orderly}
+use Rattle.outcome.specs.Check.{positionOf, lossFrom, rising, orderly}
 use Rattle.outcome.specs.Refusals.{records}
-use Rattle.outcome_laws.proofs.Bodies.{Whole, Stops, bodies-some, bodies-none}
+use Rattle.outcome_laws.proofs.Bodies.{Whole, Stops}
 use Rattle.checker_laws.specs.Records.{recordCount, bodyFrom, positionAt, lossAt, positions, losses, risesAt, formedAt, formed, Listing}
 use Rattle.checker_laws.proofs.Lists.{by-places, all-both, all-same, all-map, at-member}
 

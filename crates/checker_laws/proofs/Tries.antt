@@ -1,13 +1,13 @@
 -- What a check tries: the replies found one after another in a fan lead where the replies to an attack lead, and the attacks
 -- of a position are those of its two sides. Assumes nothing.
-use Prim.Native.Nat.{ℕ, suc, _-_, _≤_, _<_}
+use Prim.Native.Nat.{ℕ, _-_, _≤_}
 use mathlib.Core.Path.{_≡_, refl, sym, _∙_, ap}
-use mathlib.Core.Bool.{Bool, true, false, not, _&&_, _||_}
-use mathlib.Core.List.{List, [], _∷_, _++_, map, map-map, flatMap}
+use mathlib.Core.Bool.{Bool, not, _&&_}
+use mathlib.Core.List.{List, [], _∷_, map, map-map}
 use mathlib.Core.Option.{Option, none, some}
 use native.Mathlib.Nat.{zero-add, sub-zero}
 use native.Mathlib.Omega.{arith}
-use lib.ListN.{length, getD}
+use lib.ListN.{length}
 use Rattle.fra.specs.Lists.{any, all, keep, count, least}
 use Rattle.fra.specs.Model.{edgeOf}
 use Rattle.fra.specs.Rules.{bisimulation, other, modelOf}
@@ -20,7 +20,6 @@ use Rattle.fra.specs.declared.Side.{Side}
 use Rattle.fra.specs.declared.Side.the-variants.{Left, Right}
 use Rattle.fra.specs.declared.IdCase.the-variants.{Held}
 use Rattle.fra.specs.declared.Attack.{Attack}
-use Rattle.fra_laws.proofs.Lists.{keep-passes, keep-fails}
 use Rattle.moves.proofs.Lists.{keep-map}
 use Rattle.moves.proofs.IdCases.{casesFrom, all-cases}
 use Rattle.moves.proofs.Attacks.{edgeAttacks, attacking, sideAttacks, attacks-by-side}
@@ -34,7 +33,7 @@ use Rattle.replies.specs.declared.search.Found.{Found}
 use Rattle.replies.proofs.Fans.{Holds}
 use Rattle.replies.proofs.Replies.{answersFrom, replier, attackFan, all-replies, after-is}
 use Rattle.outcome.specs.Check.{holds}
-use Rattle.checker_laws.specs.Tries.{leadsFrom, listedIn, answered, edgeAnswered, sideAnswered}
+use Rattle.checker_laws.specs.Tries.{leadsFrom, listedIn, answeredIn, casesAnsweredIn, answered, edgeAnswered, sideAnswered}
 use Rattle.checker_laws.proofs.Lists.{keep-none, keep-some, by-places, all-append, all-same, all-map, any-map, all-flatMap-keep}
 
 -- ── Replies, one after another ──
@@ -97,7 +96,7 @@ leads-after t p a room h =
 
 module _ (t : Task) (p : Position) (good : Position → Bool) (a : Attack) {bytes : List ℕ} {n : ℕ}
     (room : replier t p a .«edge_count» ≤ length (replier t p a .edges)) (h : Holds (replier t p a) (attackFan t p a) n bytes) where
-  pub some-reply : any good (leadsFrom bytes n 0 (challengeOf t p a)) ≡ answered t p good a
+  pub some-reply : answeredIn good bytes n (challengeOf t p a) ≡ answered t p good a
   unfolding answered
   some-reply = rw (leads-after t p a room h) (any-map good (after t p a) (replies t p a))
 
@@ -108,8 +107,8 @@ module _ (t : Task) (p : Position) (good : Position → Bool) (a : Attack) {byte
 pub each-case : (t : Task) (p : Position) (good : Position → Bool) (s : Side) (k : ℕ) {bytes : List ℕ} {n : ℕ}
     → modelOf t (other s) .«edge_count» ≤ length (modelOf t (other s) .edges)
     → Holds (modelOf t (other s)) (attackFan t p (record { side = s; edge = k; case = Held })) n bytes
-    → all (λ c. any good (leadsFrom bytes n 0 (challengeOf t p (record { side = s; edge = k; case = c }))))
-    (casesFrom (filled t p (other s)) p s (edgeOf (modelOf t s) k .kind) 0)
+    → casesAnsweredIn good bytes n (challengeOf t p (record { side = s; edge = k; case = Held })) (edgeOf (modelOf t s) k .kind)
+    (filled t p (other s))
     ≡ edgeAnswered t p good s k
 unfolding edgeAnswered
 each-case t p good s k room h =

@@ -7,15 +7,17 @@ use lib.Dec.{ltb}
 use Rattle.fra.specs.Lists.{any, all, keep, count}
 use Rattle.fra.specs.Rules.{bisimulation, modelOf}
 use Rattle.fra.specs.Game.{replies, after}
+use Rattle.fra.specs.declared.EdgeKind.{EdgeKind}
 use Rattle.fra.specs.declared.Position.{Position}
 use Rattle.fra.specs.declared.Task.{Task}
 use Rattle.fra.specs.declared.Side.{Side}
 use Rattle.fra.specs.declared.Attack.{Attack}
 use Rattle.outcome.specs.Certificate.{Loss}
 use Rattle.outcome.specs.Check.{same}
+use Rattle.moves.proofs.IdCases.{casesFrom}
 use Rattle.moves.proofs.Attacks.{edgeAttacks, attacking}
 use Rattle.replies.specs.Fan.{candidateAt}
-use Rattle.replies.specs.Search.{isAnswer, afterReply}
+use Rattle.replies.specs.Search.{inCase, isAnswer, afterReply}
 use Rattle.replies.specs.declared.search.Challenge.{Challenge}
 
 -- what the replies to a challenge lead to, from place i of a fan of n candidates on
@@ -33,6 +35,17 @@ listedIn l p = any (same p) l
 -- the position is listed with fewer rounds than n
 abbrev pub soonerIn : List Loss → ℕ → Position → Bool
 soonerIn l n p = any (λ x. same p (x .position) && ltb (x .rounds) n) l
+
+-- ── Challenges in a fan ──
+
+-- some reply leads to a good position
+abbrev pub answeredIn : (Position → Bool) → List ℕ → ℕ → Challenge → Bool
+answeredIn good bytes n c = any good (leadsFrom bytes n 0 c)
+
+-- so it is in each id case that an edge of this kind has, where the other side's state has the register set `others`
+abbrev pub casesAnsweredIn : (Position → Bool) → List ℕ → ℕ → Challenge → EdgeKind → ℕ → Bool
+casesAnsweredIn good bytes n c kind others =
+    all (λ case. answeredIn good bytes n (inCase c case)) (casesFrom others (c .position) (c .side) kind 0)
 
 -- ── Attacks by side and edge ──
 

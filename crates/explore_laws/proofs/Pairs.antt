@@ -1,12 +1,11 @@
 -- The keys wanted of a fan are those wanted at its places, and the keys of successors are those wanted of the left edges. Assumes
 -- nothing.
-use Prim.Native.Nat.{ℕ, suc, _<_}
+use Prim.Native.Nat.{ℕ, _<_}
 use mathlib.Core.Path.{_≡_, refl, sym, _∙_, ap, subst}
 use mathlib.Core.Bool.{true}
-use mathlib.Core.List.{List, List·Memᴰ·head, List·Memᴰ·tail}
+use mathlib.Core.List.{List}
 use native.Mathlib.Omega.{arith}
-use lib.ListN.{length, getD}
-use Rattle.fra.specs.Lists.{_∈_}
+use lib.ListN.{getD}
 use Rattle.fra.specs.Rules.{Rules}
 use Rattle.fra.specs.Position.{legal}
 use Rattle.fra.specs.Valid.{Valid}
@@ -19,14 +18,10 @@ use Rattle.replies.specs.declared.fan.Candidate.{Candidate}
 use Rattle.replies.proofs.Fans.{Holds}
 use Rattle.replies.proofs.Pairs.{successors-by-fans}
 use Rattle.table_laws.specs.Keys.{keyOf}
-use Rattle.table_laws.proofs.Records.{at-member}
+use Rattle.table_laws.proofs.Records.{at-member, member-place}
 use Rattle.explore_laws.specs.Growth.{Before}
 use Rattle.explore_laws.specs.Pairs.{PairKey, FanKey, EdgeKey}
 use Rattle.explore_laws.specs.Exploring.{SuccessorKey}
-
-member-place : {x : ℕ} {l : List ℕ} → x ∈ l → (i : ℕ) × (i < length l) × (getD l i 0 ≡ x)
-member-place (List·Memᴰ·head e) = (0, omega arith, sym e)
-member-place (List·Memᴰ·tail m) = let (i, h, e) = member-place m in (suc i, omega arith, e)
 
 -- ── A fan, place by place ──
 
@@ -37,7 +32,7 @@ module _ {m : Model} {js bytes : List ℕ} {n : ℕ} (held : Holds m js n bytes)
 
   pub places-of-fan : (k : ℕ) → FanKey m p left js k → Before n (λ i. PairKey p left (candidateAt bytes i)) k
   places-of-fan k (j, d, w) =
-      let (i, h, e) = member-place d in
+      let (i, h, e) = member-place 0 d in
       let l : i < n = omega (arith, held .counted) in
       (i, l, subst (λ c. PairKey p left c k) (ap (candidateOf m) (sym e) ∙ sym (held .reads i l)) w)
 

@@ -78,6 +78,15 @@ module _ (g : Rules) (t : Task) where
       not-before e u zero b = lost-at-once g t p ∙ e
       not-before e u (suc j) b = not-lost-step g t j p .1 (not-before e u j (omega arith), u j b)
 
+  -- where the rank is k + 1 and k is not 0, some attack and reply lead to a position of rank k
+  pub rank-reply : (p : Position) (k : ℕ) → 1 ≤ k → HasRank g t p (suc k)
+      → (a : Attack) × (a ∈ attacks g t p) × (j : ℕ) × (j ∈ replies t p a) × HasRank g t (after t p a j) k
+  rank-reply p zero b r = absurd (omega arith)
+  rank-reply p (suc k) b r =
+      let (e, (a, i, w), u) = rank-rounds p (suc k) .0 r in
+      let (j, d, f) = u k (omega arith) a i in
+      (a, i, j, d, record { lost = w j d; not-before = λ h c. not-lost-within-fewer g t h k (after t p a j) (omega arith) f })
+
   module _ (l : List Position) (closed : Closed g t l) where
     -- ── Levels of a closed list: at each level a member is newly lost, until none is any more ──
 
@@ -139,12 +148,7 @@ module _ (g : Rules) (t : Task) where
     -- where a member has rank k + 1 and k is not 0, some member has rank k
     pub rank-below : (p : Position) → p ∈ l → (k : ℕ) → 1 ≤ k → HasRank g t p (suc k)
         → (q : Position) × (q ∈ l) × HasRank g t q k
-    rank-below p m zero b r = absurd (omega arith)
-    rank-below p m (suc k) b r =
-        let (e, (a, i, w), u) = rank-rounds p (suc k) .0 r in
-        let (j, d, f) = u k (omega arith) a i in
-        let q = after t p a j in
-        (q, closed p m a i j d, record { lost = w j d; not-before = λ h c. not-lost-within-fewer g t h k q (omega arith) f })
+    rank-below p m k b r = let (a, i, j, d, s) = rank-reply p k b r in (after t p a j, closed p m a i j d, s)
 
     -- the ranks from 1 to a member's rank all occur
     pub ranks-occur : (n : ℕ) (p : Position) → p ∈ l → HasRank g t p n

@@ -14,19 +14,16 @@ use lookup::models::set_of;
 use moves::cases::CaseFound;
 use moves::cases::next_case;
 use moves::registers::other;
+use replies::fan;
 use replies::search::Challenge;
 use replies::search::Reply;
 use replies::search::next_reply;
 ghost use mathlib.Core.Path.{_≡_};
-ghost use Prim.Native.Nat.{_<_};
-ghost use Rattle.fra.specs.Lists.{any, all};
 ghost use Rattle.fra.specs.Rules.{bisimulation};
 ghost use Rattle.fra.specs.Valid.{Valid};
 ghost use Rattle.outcome.specs.Check.{holds, keptAccepted};
-ghost use Rattle.moves.proofs.IdCases.{casesFrom};
-ghost use Rattle.replies.specs.Search.{inCase};
 ghost use Rattle.checker_laws.specs.Records.{Listing, positions};
-ghost use Rattle.checker_laws.specs.Tries.{leadsFrom, listedIn, edgeAnswered, sideAnswered};
+ghost use Rattle.checker_laws.specs.Tries.{listedIn, answeredIn, casesAnsweredIn, edgeAnswered, sideAnswered};
 
 // The position is listed.
 fn listed(certificate: &[u8], p: Position) -> bool
@@ -41,9 +38,9 @@ fn listed(certificate: &[u8], p: Position) -> bool
 }
 
 // Some reply leads to a listed position.
-fn answered(certificate: &[u8], fan: &[u8; 320], count: usize, challenge: Challenge) -> bool
+fn answered(certificate: &[u8], fan: &[u8; fan::SIZE], count: usize, challenge: Challenge) -> bool
     requires { ⌜ Listing 6 9 (now certificate) ⌝ }
-    ensures { λ r. ⌜ r ≡ any (listedIn (positions 6 9 (now (certificate .entry)))) (leadsFrom (now (fan .entry)) count 0 challenge) ⌝ }
+    ensures { λ r. ⌜ r ≡ answeredIn (listedIn (positions 6 9 (now (certificate .entry)))) (now (fan .entry)) count challenge ⌝ }
 {
     let mut from: usize = 0;
     loop {
@@ -63,14 +60,14 @@ fn answered(certificate: &[u8], fan: &[u8; 320], count: usize, challenge: Challe
 // In each id case that an edge of this kind has, some reply leads to a listed position.
 fn cases_answered(
     certificate: &[u8],
-    fan: &[u8; 320],
+    fan: &[u8; fan::SIZE],
     count: usize,
     challenge: Challenge,
     kind: EdgeKind,
     others: u8,
 ) -> bool
     requires { ⌜ Listing 6 9 (now certificate) ⌝ }
-    ensures { λ r. ⌜ r ≡ all (λ c. any (listedIn (positions 6 9 (now (certificate .entry)))) (leadsFrom (now (fan .entry)) count 0 (inCase challenge c))) (casesFrom others (challenge .position) (challenge .side) kind 0) ⌝ }
+    ensures { λ r. ⌜ r ≡ casesAnsweredIn (listedIn (positions 6 9 (now (certificate .entry)))) (now (fan .entry)) count challenge kind others ⌝ }
 {
     let p = challenge.position;
     let side = challenge.side;
@@ -99,7 +96,7 @@ fn edge_answered(t: Task, certificate: &[u8], p: Position, side: Side, k: u8) ->
         edge: k,
         case,
     };
-    let mut candidates = [0u8; 320];
+    let mut candidates = [0u8; fan::SIZE];
     let count = attacks::fan_of(t, p, a, &mut candidates);
     let e = edge_of(model_of(t, side), k);
     let kind = e.kind;
@@ -152,6 +149,7 @@ fn holds(t: Task, certificate: &[u8], p: Position) -> bool
     side_answered(t, certificate, p, Side::Right)
 }
 
+// The list is accepted: the start is listed, and every listed position holds.
 pub fn accepted(t: Task, certificate: &[u8]) -> bool
     requires { ⌜ Listing 6 9 (now certificate) ⌝ }
     requires { ⌜ Valid 6 t ⌝ }

@@ -1,4 +1,4 @@
-// The form of a proposed certificate: whole records of one kind, legal positions, each before the next.
+// The form of a proposed certificate: whole records of one kind, with legal positions that rise strictly.
 use crate::layout;
 use crate::layout::before;
 use crate::legality::legal;
@@ -34,6 +34,7 @@ fn record_formed(t: Task, certificate: &[u8], kind: u8, width: usize, i: usize) 
     rises(certificate, width, i)
 }
 
+// Whole records of this kind and this many bytes, each of them well formed.
 pub fn formed(t: Task, certificate: &[u8], kind: u8, width: usize) -> bool
     requires { ⌜ 9 ≤ width ⌝ }
     ensures { λ r. ⌜ r ≡ formed 6 t kind width (now (certificate .entry)) ⌝ }

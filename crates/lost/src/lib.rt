@@ -8,18 +8,19 @@ use listing::layout;
 use listing::layout::Claim;
 use listing::search;
 use listing::search::Place;
+use replies::fan;
 use replies::search::Challenge;
 use replies::search::Reply;
 use replies::search::next_reply;
 ghost use mathlib.Core.Path.{_≡_};
-ghost use Prim.Native.Nat.{_<_};
 ghost use mathlib.Core.Bool.{_&&_};
+ghost use mathlib.Core.Option.{some};
 ghost use lib.Dec.{eqb};
 ghost use Rattle.fra.specs.Lists.{all};
 ghost use Rattle.fra.specs.Rules.{bisimulation};
-ghost use Rattle.fra.specs.Game.{isAttack, replies, after, lostAtOnce};
+ghost use Rattle.fra.specs.Game.{lostAtOnce};
 ghost use Rattle.fra.specs.Valid.{Valid};
-ghost use Rattle.outcome.specs.Check.{sideOf, caseOf, attackFrom, lossHolds, lossesAccepted, startRounds};
+ghost use Rattle.outcome.specs.Check.{sideOf, caseOf, attackFrom, forces, lossHolds, lossesAccepted, startRounds};
 ghost use Rattle.listing.specs.Losses.{lossOf};
 ghost use Rattle.checker_laws.specs.Records.{Listing, losses};
 ghost use Rattle.checker_laws.specs.Tries.{leadsFrom, soonerIn};
@@ -92,7 +93,7 @@ fn sooner(certificate: &[u8], p: Position, rounds: u32) -> bool
 // Every reply leads to a listed position of fewer rounds.
 fn all_sooner(
     certificate: &[u8],
-    fan: &[u8; 320],
+    fan: &[u8; fan::SIZE],
     count: usize,
     challenge: Challenge,
     rounds: u32,
@@ -115,23 +116,24 @@ fn all_sooner(
     }
 }
 
-// The attack exists, and every reply leads to a listed position of fewer rounds.
-fn forces(t: Task, certificate: &[u8], p: Position, a: Attack, rounds: u32) -> bool
+// The attack exists, and every reply leads to a listed position of fewer rounds than the record has.
+fn forces(t: Task, certificate: &[u8], x: Claim, a: Attack) -> bool
     requires { ⌜ Listing 6 16 (now certificate) ⌝ }
     requires { ⌜ Valid 6 t ⌝ }
-    ensures { λ r. ⌜ r ≡ (isAttack bisimulation t p a && all (λ k. soonerIn (losses 6 16 (now (certificate .entry))) rounds (after t p a k)) (replies t p a)) ⌝ }
+    ensures { λ r. ⌜ r ≡ forces bisimulation t (losses 6 16 (now (certificate .entry))) (lossOf x) (some a) ⌝ }
 {
+    let p = x.position;
     if !attacks::is_attack(t, p, a) {
         return false;
     }
-    let mut candidates = [0u8; 320];
+    let mut candidates = [0u8; fan::SIZE];
     let count = attacks::fan_of(t, p, a, &mut candidates);
     all_sooner(
         certificate,
         &candidates,
         count,
         attacks::challenge(t, p, a),
-        rounds,
+        x.rounds,
     )
 }
 
@@ -159,10 +161,10 @@ fn holds(t: Task, certificate: &[u8], x: Claim) -> bool
     let AttackNamed::By(a) = named else {
         return false;
     };
-    let p = x.position;
-    forces(t, certificate, p, a, x.rounds)
+    forces(t, certificate, x, a)
 }
 
+// The list is accepted: the start is listed, and every record holds.
 pub fn accepted(t: Task, certificate: &[u8]) -> bool
     requires { ⌜ Listing 6 16 (now certificate) ⌝ }
     requires { ⌜ Valid 6 t ⌝ }

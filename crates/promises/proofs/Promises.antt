@@ -44,7 +44,32 @@ use Rattle.outcome_laws.proofs.Check.{Accepts, accepts-kept, accepts-lost, chec
 use Rattle.outcome_laws.proofs.Conditions.{kept-start-never-lost, listed-start-lost}
 use Rattle.outcome_laws.proofs.Own.{own-kept, own-lost}
 use Rattle.number_laws.proofs.Agreement.{opening-exists, enough-iff-lost, least-enough-iff-first-lost, never-enough-iff-never-lost}
+use Rattle.comparer.proofs.compare.Statement.{statement as compare-statement}
+use Rattle.comparer.proofs.compare.Met.{met as compare-met}
+use Rattle.checker.proofs.check.Statement.{statement as check-statement}
+use Rattle.checker.proofs.check.Met.{met as check-met}
+use Rattle.exports.proofs.nuldopa_compare.Statement.{statement as compare-for-c-statement}
+use Rattle.exports.proofs.nuldopa_compare.Met.{met as compare-for-c-met}
+use Rattle.exports.proofs.nuldopa_check.Statement.{statement as check-for-c-statement}
+use Rattle.exports.proofs.nuldopa_check.Met.{met as check-for-c-met}
 use Rattle.promises.proofs.Support.{taskOf, compared-read, compared-unread, decided-read, verdict-start, same-rank, written-part, checked-read, checked-unread, count-most, count-fits}
+
+-- ── The functions that the definitions below speak of ──
+
+-- The comparer: what it answers, and what it leaves in the table and in the certificate buffer, is `compare equality` of the bytes
+-- that it was lent, whatever they are (crates/comparer/src/lib.rt). For callers in C: crates/exports/src/lib.rt.
+pub comparer-returns-the-outcome : {M : Type 1} → compare-statement M
+comparer-returns-the-outcome = compare-met
+
+pub comparer-for-c-returns-the-outcome : {M : Type 1} → compare-for-c-statement M
+comparer-for-c-returns-the-outcome = compare-for-c-met
+
+-- The checker answers `check equality` of the bytes that it was lent, and writes nothing (crates/checker/src/lib.rt).
+pub checker-returns-the-outcome : {M : Type 1} → check-statement M
+checker-returns-the-outcome = check-met
+
+pub checker-for-c-returns-the-outcome : {M : Type 1} → check-for-c-statement M
+checker-for-c-returns-the-outcome = check-for-c-met
 
 -- ── Demand 1: a verdict, or a refusal in the case named for it and in no other ──
 

@@ -2,14 +2,15 @@
 use Prim.Native.Nat.{ℕ, suc, _+_, _*_, _-_, _^_, _≤_, _<_}
 use mathlib.Core.Path.{_≡_, refl, sym, _∙_, ap}
 use mathlib.Core.Logic.{⊎-elim}
-use mathlib.Core.Bool.{Bool, true, false, _||_, or-false, or-assoc}
-use mathlib.Core.List.{List, [], _++_, List·Memᴰ·head, List·Memᴰ·tail}
+use mathlib.Core.Bool.{Bool, true, false, _&&_, _||_, or-false, or-assoc}
+use mathlib.Core.List.{List, _++_}
 use mathlib.Core.Option.{Option, none, some}
 use native.Mathlib.Nat.{le-refl}
 use native.Mathlib.Numerals.{add-one}
 use native.Mathlib.Omega.{arith}
-use lib.ListN.{length, getD, drop, drop-of-length-le}
+use lib.ListN.{length, getD, drop, length-append, drop-of-length-le}
 use lib.Seq.{drop-at, drop-cons}
+use lib.Dec.{eqb}
 use borrow.Author.Tests.{ne-eqb}
 use Rattle.fra.specs.Lists.{_∈_, any}
 use Rattle.fra.specs.Rules.{bisimulation}
@@ -19,8 +20,9 @@ use Rattle.fra.specs.Reach.{rank, reached}
 use Rattle.fra.specs.Valid.{Valid}
 use Rattle.fra.specs.declared.Position.{Position}
 use Rattle.fra.specs.declared.Task.{Task}
+use Rattle.fra.specs.declared.Side.the-variants.{Left}
 use Rattle.fra.specs.declared.Attack.{Attack}
-use Rattle.fra_laws.proofs.Tests.{not-both}
+use Rattle.fra_laws.proofs.Tests.{not-both, fails-unless}
 use Rattle.fra_laws.proofs.Order.{before-irreflexive}
 use Rattle.fra_laws.proofs.Lengths.{flatMap-length}
 use Rattle.fra_laws.proofs.Legal.{legal-facts}
@@ -29,7 +31,7 @@ use Rattle.fra_laws.proofs.Rounds.{Closed, rank-some}
 use Rattle.outcome.specs.Bytes.{allOnes}
 use Rattle.outcome.specs.Certificate.{roundsOrNever, entry, entries, chosen}
 use Rattle.table_laws.specs.Table.{row, positionAt}
-use Rattle.table_laws.proofs.Records.{at-member}
+use Rattle.table_laws.proofs.Records.{at-member, member-place}
 use Rattle.table_laws.proofs.Rows.{row-length}
 use Rattle.table_laws.proofs.Search.{rising-at}
 use Rattle.table.specs.Places.{placeOf}
@@ -38,9 +40,11 @@ use Rattle.table.proofs.Places.{place-at}
 use Rattle.rank_laws.specs.Levels.{level, ranked}
 use Rattle.rank_laws.specs.Rows.{rows, roundsAt}
 use Rattle.rank_laws.specs.Winner.{winner, isFound}
+use Rattle.rank_laws.specs.Pairs.{hasPair, lostPairs, sources, Covers}
 use Rattle.rank_laws.proofs.Levels.{level-judges, level-step, level-zero, level-final, ranked-step, ranked-bound}
 use Rattle.rank_laws.proofs.Rows.{flatMap-same, partly, partly-room, partly-position, partly-rounds, partly-positions, partly-here, partly-next}
 use Rattle.rank_laws.proofs.Winners.{chosen-winner, winner-same}
+use Rattle.rank_laws.proofs.Pairs.{covers-next}
 use Rattle.wins.specs.declared.Win.{Win}
 use Rattle.wins.specs.declared.Win.the-variants.{By, Nobody}
 use Rattle.wins.specs.Judgement.{Searchable, lostBefore}
@@ -57,22 +61,25 @@ found-is : (o : Option Attack) → isWin (winOf o) ≡ isFound o
 found-is none = refl
 found-is (some a) = refl
 
-module _ (table : List ℕ) (n : ℕ) (t : Task) (k i : ℕ) where
-  pub gains-nothing : (roundsAt table i ≡ allOnes → ⊥) → gains table n t k i ≡ false
+module _ (table : List ℕ) (n : ℕ) (t : Task) (k : ℕ) (worth : List ℕ) (i : ℕ) {p : Position} (here : p ≡ positionAt table i) where
+  pub gains-unseen : hasPair worth (p .left) (p .right) ≡ false → gains table n t k worth i ≡ false
   unfolding gains
-  gains-nothing d = rw (ne-eqb (roundsAt table i) allOnes d)
+  gains-unseen e = rw (rw here at e)
 
-  pub gains-by : {p : Position} {w : Win} → roundsAt table i ≡ allOnes → p ≡ positionAt table i
-      → w ≡ winOf (winner bisimulation t (lostBefore table n k) p)
-      → gains table n t k i ≡ isWin w
+  pub gains-nothing : (roundsAt table i ≡ allOnes → ⊥) → hasPair worth (p .left) (p .right) ≡ true
+      → gains table n t k worth i ≡ false
   unfolding gains
-  gains-by e d h = rw (h, d, e) (sym (found-is (winner bisimulation t (lostBefore table n k) (positionAt table i))))
+  gains-nothing d e = rw (rw here at e, ne-eqb (roundsAt table i) allOnes d)
+
+  pub gains-by : {w : Win} → w ≡ winOf (winner bisimulation t (lostBefore table n k) p)
+      → roundsAt table i ≡ allOnes
+      → hasPair worth (p .left) (p .right) ≡ true
+      → gains table n t k worth i ≡ isWin w
+  unfolding gains
+  gains-by h d e =
+      rw (rw here at e, d, h, here) (sym (found-is (winner bisimulation t (lostBefore table n k) (positionAt table i))))
 
 -- ── Looking up in a rising list ──
-
-member-place : {A : Type 0} {x : A} {l : List A} (z : A) → x ∈ l → (j : ℕ) × (j < length l) × (getD l j z ≡ x)
-member-place z (List·Memᴰ·head {x = y} {xs = ys} e) = (0, omega arith, sym e)
-member-place z (List·Memᴰ·tail {x = y} {xs = ys} m) = let (j, b, e) = member-place z m in (suc j, omega arith, e)
 
 -- a member of a rising list is looked up at its place
 place-member : (l : List Position) → Rising l → (j : ℕ) (z : Position) → j < length l → placeOf (getD l j z) l ≡ At j
@@ -139,7 +146,7 @@ module _ {t : Task} (valid : Valid 6 t) (rest : List ℕ) where
         (level-small t k (getD l j q) (omega arith)))))
 
     -- entry i gains rounds exactly if its position has rank k + 1
-    module _ (z : Position) (b : i < length l) where
+    module _ (worth : List ℕ) (covers : Covers bisimulation t (suc k) worth) (z : Position) (b : i < length l) where
       abbrev p : Position
       p = getD l i z
 
@@ -149,18 +156,28 @@ module _ {t : Task} (valid : Valid 6 t) (rest : List ℕ) where
           (λ a m j r. judges (after t p a j) (reached-after valid bisimulation p a j (at-member l i z b) m r))
           ∙ sym (chosen-winner bisimulation t k p)
 
-      gains-rank : gains table (length l) t (suc k) i ≡ ranked bisimulation t (suc k) p
+      gains-rank : gains table (length l) t (suc k) worth i ≡ ranked bisimulation t (suc k) p
       unfolding gains
       gains-rank =
-          rw (
-            partly-here (level bisimulation t (suc k)) (level bisimulation t k) l rest (six valid) i z b (level-small t k p (omega arith)),
-            partly-position (level bisimulation t (suc k)) (level bisimulation t k) l rest (six valid) i i z b,
-            won,
-          )
-          (sym (ranked-step bisimulation t k p small))
+          rw (partly-position (level bisimulation t (suc k)) (level bisimulation t k) l rest (six valid) i i z b)
+          (step (hasPair worth (p .left) (p .right)) refl)
+        where
+          step : (seen : Bool) → hasPair worth (p .left) (p .right) ≡ seen
+              → (hasPair worth (p .left) (p .right)
+              && eqb (roundsAt table i) allOnes
+              && isFound (winner bisimulation t (lostBefore table (length l) (suc k)) p))
+              ≡ ranked bisimulation t (suc k) p
+          step true e =
+              rw (
+                e,
+                partly-here (level bisimulation t (suc k)) (level bisimulation t k) l rest (six valid) i z b (level-small t k p (omega arith)),
+                won,
+              )
+              (sym (ranked-step bisimulation t k p small))
+          step false e = rw e (sym (fails-unless _ (λ r. not-both _ (covers p (at-member l i z b) r) e)))
 
       -- so it has its new level then
-      gains-next : markedIf (gains table (length l) t (suc k) i) table i (suc k)
+      gains-next : markedIf (gains table (length l) t (suc k) worth i) table i (suc k)
           ≡ partly (level bisimulation t (suc k)) (level bisimulation t k) l rest (suc i)
       gains-next =
           rw gains-rank
@@ -168,19 +185,20 @@ module _ {t : Task} (valid : Valid 6 t) (rest : List ℕ) where
           (level-step bisimulation t k p))
 
   -- the same of pass k, from pass 1 on
-  pub pass-gains : (n k i : ℕ) {table : List ℕ} (z : Position) → n ≡ length l → 1 ≤ k → k < allOnes → i < n
-      → table ≡ partly (level bisimulation t k) (level bisimulation t (k - 1)) l rest i
-      → gains table n t k i ≡ ranked bisimulation t k (getD l i z)
-  pass-gains n k i z d a small b e =
-      let s : suc (k - 1) ≡ k = omega arith in
-      rw (e, d) (rw s at (gains-rank (k - 1) i (omega arith) z (omega arith)))
+  module _ (n k i : ℕ) {table : List ℕ} (z : Position) (counted : n ≡ length l) (least : 1 ≤ k) (small : k < allOnes) (inside : i < n)
+      (e : table ≡ partly (level bisimulation t k) (level bisimulation t (k - 1)) l rest i)
+      (worth : List ℕ)
+      (covers : Covers bisimulation t k worth)
+    where
+      s : suc (k - 1) ≡ k
+      s = omega arith
 
-  pub pass-next : (n k i : ℕ) {table : List ℕ} (z : Position) → n ≡ length l → 1 ≤ k → k < allOnes → i < n
-      → table ≡ partly (level bisimulation t k) (level bisimulation t (k - 1)) l rest i
-      → markedIf (gains table n t k i) table i k ≡ partly (level bisimulation t k) (level bisimulation t (k - 1)) l rest (i + 1)
-  pass-next n k i z d a small b e =
-      let s : suc (k - 1) ≡ k = omega arith in
-      rw (e, d, add-one) (rw s at (gains-next (k - 1) i (omega arith) z (omega arith)))
+      pub pass-gains : gains table n t k worth i ≡ ranked bisimulation t k (getD l i z)
+      pass-gains = rw (e, counted) (rw s at (gains-rank (k - 1) i (omega arith) worth (rw s covers) z (omega arith)))
+
+      pub pass-next : markedIf (gains table n t k worth i) table i k
+          ≡ partly (level bisimulation t k) (level bisimulation t (k - 1)) l rest (i + 1)
+      pass-next = rw (e, counted, add-one) (rw s at (gains-next (k - 1) i (omega arith) worth (rw s covers) z (omega arith)))
 
   -- ── Pass 0 ──
 
@@ -206,15 +224,26 @@ module _ {t : Task} (valid : Valid 6 t) where
 
   -- the table after a pass begins with the same positions, and its other bytes are as they were
   module _ (f : Position → ℕ) (n : ℕ) (rest : List ℕ) {table : List ℕ} (counted : n ≡ length reachable) (e : table ≡ rows f reachable ++ rest) where
-    pub pass-rest : drop (n * 12) table ≡ rest
+    rows-length : length (rows f reachable) ≡ n * 12
     unfolding rows
-    pass-rest =
-        rw e
-        (drop-at (rows f reachable) rest (n * 12)
-        (flatMap-length (λ p. row p (f p)) reachable 12 (λ p m. row-length p (f p) (six valid p m)) ∙ rw counted))
+    rows-length =
+        flatMap-length (λ p. row p (f p)) reachable 12 (λ p m. row-length p (f p) (six valid p m)) ∙ rw counted
+
+    pub pass-rest : drop (n * 12) table ≡ rest
+    pass-rest = rw e (drop-at (rows f reachable) rest (n * 12) rows-length)
+
+    pub pass-room : n * 12 ≤ length table
+    pass-room = rw e (omega (arith, length-append (rows f reachable) rest, rows-length))
 
     pub pass-begins : Begins t f n table
     pass-begins = record { counted = counted; begins = rw pass-rest e }
+
+  -- what a pass from 1 on has marked tells where the next one has to look
+  pub pass-covers : (k n : ℕ) (rest : List ℕ) {table : List ℕ} → 1 ≤ k → k + 1 < allOnes → n ≡ length reachable
+      → table ≡ rows (level bisimulation t k) reachable ++ rest
+      → Covers bisimulation t (k + 1) (sources (t .left) (t .right) (lostPairs table k n) (t .left .«edge_count»))
+  pass-covers k n rest a b counted e =
+      rw add-one (covers-next valid bisimulation Left refl k n rest a (omega arith) (six valid) counted e)
 
   -- a pass from 1 on that marks an entry is one of as many as there are positions
   pub pass-bound : (k : ℕ) → k < allOnes → any (ranked bisimulation t k) reachable ≡ true → k ≤ length reachable

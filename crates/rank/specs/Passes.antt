@@ -13,6 +13,7 @@ use Rattle.outcome.specs.Bytes.{allOnes}
 use Rattle.table_laws.specs.Table.{putWord, positionAt}
 use Rattle.rank_laws.specs.Rows.{rows, roundsAt}
 use Rattle.rank_laws.specs.Winner.{winner, isFound}
+use Rattle.rank_laws.specs.Pairs.{hasPair}
 use Rattle.wins.specs.Judgement.{lostBefore}
 
 -- the table begins with the n positions reached, with these rounds
@@ -20,10 +21,13 @@ pub record Begins (t : Task) (rounds : Position → ℕ) (n : ℕ) (table : List
   pub counted : n ≡ length (reached bisimulation t)
   pub begins : table ≡ rows rounds (reached bisimulation t) ++ drop (n * 12) table
 
--- entry i has no rounds yet, and an attack wins by positions that the table has with fewer rounds than k
-unfoldable pub gains : List ℕ → ℕ → Task → ℕ → ℕ → Bool
-gains table n t k i =
-    eqb (roundsAt table i) allOnes && isFound (winner bisimulation t (lostBefore table n k) (positionAt table i))
+-- the states of entry i are in the set of those worth a look, it has no rounds yet, and an attack wins by positions that the table
+-- has with fewer rounds than k
+unfoldable pub gains : List ℕ → ℕ → Task → ℕ → List ℕ → ℕ → Bool
+gains table n t k worth i =
+    hasPair worth (positionAt table i .left) (positionAt table i .right)
+    && eqb (roundsAt table i) allOnes
+    && isFound (winner bisimulation t (lostBefore table n k) (positionAt table i))
 
 -- the table with rounds k at entry i where a test passes
 abbrev pub markedIf : Bool → List ℕ → ℕ → ℕ → List ℕ

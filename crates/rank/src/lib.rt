@@ -1,7 +1,11 @@
 // Ranks by passes over the sorted table in its final layout: after pass k an entry's rounds are exact if at most k, else
-// FF FF FF FF. A reply counts as lost in pass k if its rounds are fewer than k, so marks of the same pass do not count.
+// FF FF FF FF. A reply counts as lost in pass k if its rounds are fewer than k, so marks of the same pass do not count. From
+// pass 2 on a pass looks only at positions whose states lead to the states of one that the pass before has marked.
 use attacks::lost_at_once;
 use fra::Task;
+use table::ENTRY;
+use table::NEVER;
+use table::ROUNDS;
 use table::position_at;
 use table::put_word;
 use table::word_at;
@@ -21,6 +25,7 @@ ghost use Rattle.outcome.specs.Certificate.{entries};
 ghost use Rattle.table_laws.specs.Table.{positionAt};
 ghost use Rattle.rank_laws.specs.Levels.{level, ranked};
 ghost use Rattle.rank_laws.specs.Rows.{rows};
+ghost use Rattle.rank_laws.specs.Pairs.{Covers};
 ghost use Rattle.wins.specs.Judgement.{Searchable};
 ghost use Rattle.rank.specs.Passes.{Begins, gains, markedIf};
 
@@ -30,7 +35,7 @@ fn mark_at_once(table: &mut [u8], t: Task, i: usize)
     ensures { λ _. ⌜ now (table .exit) ≡ markedIf (lostAtOnce bisimulation t (positionAt (now (table .entry)) i)) (now (table .entry)) i 0 ⌝ }
 {
     if lost_at_once(t, position_at(table, i)) {
-        put_word(table, i * 12 + 8, 0);
+        put_word(table, i * ENTRY + ROUNDS, 0);
     }
 }
 
@@ -47,36 +52,41 @@ fn pass_zero(table: &mut [u8], n: usize, t: Task)
     }
 }
 
-// Pass k at entry i; the answer is whether the entry was marked.
-fn mark(table: &mut [u8], n: usize, t: Task, k: u32, i: usize) -> bool
+// Pass k at entry i, if its pair of states is worth a look; the answer is whether the entry was marked.
+fn mark(table: &mut [u8], n: usize, t: Task, k: u32, worth: &[u8; pairs::SIZE], i: usize) -> bool
     requires { ⌜ Searchable n (now table) ⌝ }
     requires { ⌜ Valid 6 t ⌝ }
     requires { ⌜ i < n ⌝ }
-    ensures { λ r. ⌜ r ≡ gains (now (table .entry)) n t k i ⌝ }
-    ensures { λ r. ⌜ now (table .exit) ≡ markedIf (gains (now (table .entry)) n t k i) (now (table .entry)) i k ⌝ }
+    ensures { λ r. ⌜ r ≡ gains (now (table .entry)) n t k (now (worth .entry)) i ⌝ }
+    ensures { λ r. ⌜ now (table .exit) ≡ markedIf (gains (now (table .entry)) n t k (now (worth .entry)) i) (now (table .entry)) i k ⌝ }
 {
-    if word_at(table, i * 12 + 8) != 4294967295 {
+    let p = position_at(table, i);
+    if !pairs::has(worth, p.left, p.right) {
         return false;
     }
-    let win = first_win(table, n, t, position_at(table, i), k);
+    if word_at(table, i * ENTRY + ROUNDS) != NEVER {
+        return false;
+    }
+    let win = first_win(table, n, t, p, k);
     let Win::By(_) = win else {
         return false;
     };
-    put_word(table, i * 12 + 8, k);
+    put_word(table, i * ENTRY + ROUNDS, k);
     true
 }
 
 // Pass k: rounds k where an attack wins by positions of fewer rounds; the answer is whether an entry was marked.
-fn pass(table: &mut [u8], n: usize, t: Task, k: u32) -> bool
+fn pass(table: &mut [u8], n: usize, t: Task, k: u32, worth: &[u8; pairs::SIZE]) -> bool
     requires { ⌜ (1 ≤ k) × (k < allOnes) × Begins t (level bisimulation t (k - 1)) n (now table) ⌝ }
     requires { ⌜ Valid 6 t ⌝ }
+    requires { ⌜ Covers bisimulation t k (now worth) ⌝ }
     ensures { λ r. ⌜ r ≡ any (ranked bisimulation t k) (reached bisimulation t) ⌝ }
     ensures { λ r. ⌜ now (table .exit) ≡ rows (level bisimulation t k) (reached bisimulation t) ++ drop (n * 12) (now (table .entry)) ⌝ }
 {
     let mut marked = false;
     let mut i = 0;
     while i < n {
-        if mark(table, n, t, k, i) {
+        if mark(table, n, t, k, worth, i) {
             marked = true;
         }
         i += 1;
@@ -91,8 +101,12 @@ pub fn rank(table: &mut [u8], n: usize, t: Task)
     ensures { λ _. ⌜ now (table .exit) ≡ entries bisimulation t ++ drop (n * 12) (now (table .entry)) ⌝ }
 {
     pass_zero(table, n, t);
+    // An attack without a reply wins in pass 1 whatever pass 0 has marked.
+    let mut worth = [1u8; pairs::SIZE];
     let mut k: u32 = 1;
-    while pass(table, n, t, k) {
+    while pass(table, n, t, k, &worth) {
+        let lost = pairs::lost_pairs(table, n, k);
+        worth = pairs::sources(t, &lost);
         k += 1;
     }
 }

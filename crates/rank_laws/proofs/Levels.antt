@@ -1,7 +1,7 @@
 -- Levels: how one pass finds the next, what they say of positions lost within k rounds, and when they are final. For any rules,
 -- task and register count. Assumes nothing.
 use Prim.Native.Nat.{ℕ, suc, _≤_, _<_}
-use mathlib.Core.Path.{_≡_, refl, sym, _∙_, ap}
+use mathlib.Core.Path.{_≡_, refl, sym, _∙_, ap, subst}
 use mathlib.Core.Logic.{inr, ⊎-elim}
 use mathlib.Core.Bool.{Bool, true, false, cond, _&&_}
 use mathlib.Core.List.{List}
@@ -13,15 +13,16 @@ use lib.Dec.{ltb, eqb}
 use borrow.Author.Tests.{lt-ltb, le-ltb, eq-eqb, ne-eqb, eqb-true, eqb-false}
 use Rattle.fra.specs.Lists.{_∈_, any, least}
 use Rattle.fra.specs.Rules.{Rules}
-use Rattle.fra.specs.Game.{attacks, replies, lostAtOnce, lostWithin}
-use Rattle.fra.specs.Reach.{rank}
+use Rattle.fra.specs.Game.{attacks, replies, after, lostAtOnce, lostWithin}
+use Rattle.fra.specs.Reach.{successors, rank}
 use Rattle.fra.specs.declared.Position.{Position}
 use Rattle.fra.specs.declared.Task.{Task}
 use Rattle.fra.specs.declared.Attack.{Attack}
 use Rattle.fra_laws.proofs.Tests.{not-both, fails-unless}
 use Rattle.fra_laws.proofs.Lists.{any-witness, any-none, all-at, all-intro, first-found, first-none}
 use Rattle.fra_laws.proofs.Lost.{lost-step, not-lost-within-fewer, lost-within-more}
-use Rattle.fra_laws.proofs.Rounds.{Closed, Settled, rank-some, rank-none, rank-exactly, rank-never, settled-never-lost, rank-at-most-length}
+use Rattle.fra_laws.proofs.Reached.{successors-intro}
+use Rattle.fra_laws.proofs.Rounds.{HasRank, Closed, Settled, rank-some, rank-none, rank-exactly, rank-reply, rank-never, settled-never-lost, rank-at-most-length}
 use Rattle.outcome.specs.Bytes.{allOnes}
 use Rattle.outcome.specs.Certificate.{roundsOrNever, wins, chosen}
 use Rattle.rank_laws.specs.Winner.{isFound}
@@ -71,6 +72,26 @@ module _ (g : Rules) (t : Task) where
       (lost-step g t k p .0 h)))
 
   -- ── Levels ──
+
+  -- a position is ranked k exactly if k is its rank
+  pub rank-ranked : (k : ℕ) (p : Position) → HasRank g t p k → ranked g t k p ≡ true
+  unfolding level
+  rank-ranked k p r = eq-eqb _ _ (ap roundsOrNever (rank-exactly g t k p k .1 (r, omega arith)))
+
+  pub ranked-rank : (k : ℕ) (p : Position) → k < allOnes → ranked g t k p ≡ true → HasRank g t p k
+  unfolding level
+  ranked-rank k p b h = step (rank g t k p) refl (eqb-true (level g t k p) k h)
+    where
+      step : (o : Option ℕ) → rank g t k p ≡ o → roundsOrNever (rank g t k p) ≡ k → HasRank g t p k
+      step none e d = absurd (omega (arith, sym (ap roundsOrNever e) ∙ d))
+      step (some j) e d = subst (HasRank g t p) (sym (ap roundsOrNever e) ∙ d) (rank-some g t k p j e .0)
+
+  -- where k is not 0, a position ranked k + 1 leads to one ranked k
+  pub ranked-successor : (k : ℕ) (p : Position) → 1 ≤ k → suc k < allOnes → ranked g t (suc k) p ≡ true
+      → (q : Position) × (q ∈ successors g t p) × (ranked g t k q ≡ true)
+  ranked-successor k p b c h =
+      let (a, i, j, d, r) = rank-reply g t p k b (ranked-rank (suc k) p c h) in
+      (after t p a j, successors-intro g t p a j i d, rank-ranked k (after t p a j) r)
 
   -- what the level of k rounds or of more says of k rounds: so a table that holds both levels judges replies rightly
   pub level-judges : (k n : ℕ) (q : Position) → k ≤ n → k < allOnes → ltb (level g t n q) (suc k) ≡ lostWithin g t k q
@@ -131,16 +152,9 @@ module _ (g : Rules) (t : Task) where
   module _ (l : List Position) (closed : Closed g t l) where
     -- a rank that a member of a closed list has is at most the count of members: so passes end
     pub ranked-bound : (k : ℕ) → k < allOnes → any (ranked g t k) l ≡ true → k ≤ length l
-    unfolding level
     ranked-bound k b h =
         let (p, m, e) = any-witness (ranked g t k) l h in
-        step p m (rank g t k p) refl (eqb-true (level g t k p) k e)
-      where
-        step : (p : Position) → p ∈ l → (o : Option ℕ) → rank g t k p ≡ o → roundsOrNever (rank g t k p) ≡ k → k ≤ length l
-        step p m none e d = absurd (omega (arith, sym (ap roundsOrNever e) ∙ d))
-        step p m (some j) e d =
-            let c : j ≡ k = sym (ap roundsOrNever e) ∙ d in
-            omega (arith, rank-at-most-length g t l closed p m j (rank-some g t k p j e .0))
+        rank-at-most-length g t l closed p m k (ranked-rank k p b e)
 
     -- where no member has rank k + 1, the level of k + 1 rounds is final
     pub level-final : (k : ℕ) → any (ranked g t (suc k)) l ≡ false
@@ -153,12 +167,7 @@ module _ (g : Rules) (t : Task) where
             fails-unless _
             (λ d.
             any-none (ranked g t (suc k)) h i
-            (eq-eqb _ _
-            (ap roundsOrNever
-            (rank-exactly g t (suc k) q (suc k) .1 (
-              record { lost = d; not-before = λ j b. not-lost-within-fewer g t j k q (omega arith) e },
-              omega arith,
-            )))))
+            (rank-ranked (suc k) q (record { lost = d; not-before = λ j b. not-lost-within-fewer g t j k q (omega arith) e })))
 
         step : (o : Option ℕ) → rank g t (suc k) p ≡ o → rank g t (suc k) p ≡ rank g t (length l) p
         step none e =

@@ -15,6 +15,11 @@ module _ {A : Type 0} where
   at-member (x ∷ xs) zero z h = List·Memᴰ·head refl
   at-member (x ∷ xs) (suc i) z h = List·Memᴰ·tail (at-member xs i z (omega arith))
 
+  -- a member has a place
+  pub member-place : {x : A} {l : List A} (z : A) → x ∈ l → (j : ℕ) × (j < length l) × (getD l j z ≡ x)
+  member-place z (List·Memᴰ·head {x = y} {xs = ys} e) = (0, omega arith, sym e)
+  member-place z (List·Memᴰ·tail {x = y} {xs = ys} m) = let (j, b, e) = member-place z m in (suc j, omega arith, e)
+
   sets-left : (xs ys : List A) (i : ℕ) (vs : List A) → i + length vs ≤ length xs → sets (xs ++ ys) i vs ≡ sets xs i vs ++ ys
   sets-left xs ys i [] h = refl
   sets-left xs ys i (v ∷ vs) h =

@@ -42,7 +42,7 @@ pub fn lost_before(table: &[u8], n: usize, q: Position, k: u32) -> bool
     let Place::At(i) = place else {
         return false;
     };
-    table::word_at(table, i * 12 + 8) < k
+    table::word_at(table, i * table::ENTRY + table::ROUNDS) < k
 }
 
 // Every reply to the challenge, among the candidates of a fan, leads to a position lost before k.

@@ -7,13 +7,13 @@ use mathlib.Core.List.{List}
 use native.Mathlib.Omega.{arith}
 use lib.ListN.{length}
 use borrow.Author.Tests.{not-true, not-false}
-use Rattle.fra.specs.Lists.{any, all}
+use Rattle.fra.specs.Lists.{all}
 use Rattle.fra.specs.declared.IdCase.{IdCase}
 use Rattle.moves.proofs.IdCases.{casesFrom, NextCase, case-found, no-case}
 use Rattle.replies.specs.Search.{inCase}
 use Rattle.replies.specs.declared.search.Challenge.{Challenge}
 use Rattle.checker_laws.specs.Records.{positions}
-use Rattle.checker_laws.specs.Tries.{listedIn, leadsFrom}
+use Rattle.checker_laws.specs.Tries.{listedIn, answeredIn}
 use borrow.Author.Needs.{needs}
 use Rattle.kept.proofs.cases_answered.Statement.{statement}
 use Rattle.kept.proofs.cases_answered.Tie as tie
@@ -21,7 +21,7 @@ use Rattle.kept.proofs.cases_answered.Tie as tie
 -- some reply in the case leads to a listed position
 abbrev tried : List ℕ → List ℕ → ℕ → Challenge → IdCase → Bool
 tried certificate fan count challenge case =
-    any (listedIn (positions 6 9 certificate)) (leadsFrom fan count 0 (inCase challenge case))
+    answeredIn (listedIn (positions 6 9 certificate)) fan count (inCase challenge case)
 
 abbrev Inv-loop : tie.InvT-loop
 Inv-loop certificate fan count challenge kind others p side from₀ from =

@@ -1,5 +1,4 @@
 -- `leads::attack_of` meets its contract: with rounds left, the attack is the first that wins. Assumes nothing.
-use mathlib.Core.Path.{_≡_}
 use borrow.Author.Needs.{needs}
 use borrow.Author.Tests.{eq-eqb, ne-eqb}
 use Rattle.certify_laws.specs.Marking.{attackBy}

@@ -1,5 +1,5 @@
 -- `leads::lead` meets its contract: an attack was found, or there is none and nothing to mark. Assumes nothing.
-use mathlib.Core.Path.{_≡_, sym, _∙_}
+use mathlib.Core.Path.{sym, _∙_}
 use denote.Ref.{now}
 use Rattle.fra.specs.Rules.{bisimulation}
 use Rattle.certify_laws.proofs.Marking.{led-by, led-nowhere}

@@ -1,10 +1,10 @@
 -- `leads::mark_down` meets its contract. The loop's invariant: passes from `k` rounds down are left. Assumes nothing.
-use Prim.Native.Nat.{_-_, _≤_, _<_}
+use Prim.Native.Nat.{_-_, _≤_}
 use mathlib.Core.Path.{_≡_, refl, sym, _∙_}
 use native.Mathlib.Omega.{arith}
 use borrow.Author.Needs.{needs}
 use Rattle.fra.specs.Rules.{bisimulation}
-use Rattle.certify_laws.specs.Marking.{passed, marking}
+use Rattle.certify_laws.specs.Marking.{marking}
 use Rattle.certify_laws.proofs.Marking.{marking-step}
 use Rattle.certify_laws.proofs.Kept.{Kept, kept-refl, kept-trans, kept-passed, searchable-kept}
 use Rattle.leads.proofs.mark_down.Statement.{statement}

@@ -13,7 +13,7 @@ use Rattle.outcome.specs.Certificate.{attackLeads}
 use Rattle.replies.proofs.Fans.{collected-holds}
 use Rattle.checker_laws.specs.Tries.{leadsFrom}
 use Rattle.checker_laws.proofs.Tries.{leads-next, leads-none, leads-after}
-use Rattle.certify_laws.specs.Marking.{marked, markedAll}
+use Rattle.certify_laws.specs.Marking.{markedAll}
 use Rattle.certify_laws.proofs.Kept.{Kept, kept-refl, kept-trans, kept-marked, searchable-kept}
 use Rattle.leads.proofs.mark_leads.Statement.{statement}
 use Rattle.leads.proofs.mark_leads.Tie as tie

@@ -1,11 +1,11 @@
 -- `leads::pass` meets its contract. The loop's invariant: the pass has gone over the first `i` entries. Assumes nothing.
-use Prim.Native.Nat.{ℕ, _+_, _*_, _-_, _≤_}
+use Prim.Native.Nat.{ℕ, _-_, _≤_}
 use mathlib.Core.Path.{_≡_, refl, sym, _∙_, subst}
 use mathlib.Core.Logic.{⊎-elim}
 use native.Mathlib.Omega.{arith}
 use borrow.Author.Needs.{needs}
 use Rattle.fra.specs.Rules.{bisimulation}
-use Rattle.certify_laws.specs.Marking.{ledFrom, passed}
+use Rattle.certify_laws.specs.Marking.{passed}
 use Rattle.certify_laws.proofs.Marking.{pass-taken, pass-left}
 use Rattle.certify_laws.proofs.Kept.{Kept, kept-refl, kept-trans, kept-led, searchable-kept}
 use Rattle.leads.proofs.pass.Statement.{statement}

@@ -1,5 +1,5 @@
 -- `leads::prepare` meets its contract: positions can be looked up all the while. Assumes nothing.
-use mathlib.Core.Path.{_≡_}
+use native.Mathlib.Omega.{arith}
 use denote.Ref.{now}
 use borrow.Author.Needs.{needs}
 use Rattle.wins.specs.Judgement.{Searchable}
@@ -27,7 +27,7 @@ mark-down-requires c κs =
     let scaled = marked .before .before .before .before in
     let start = scaled .before .before .before .before in (
       rw (marked .mark .ensures) (searchable-kept (first scaled) (kept-marked (start .args .n) (start .args .t .start) (scaled .rescale .last .0))),
-      start .pre .1,
+      (start .pre .1 .0, omega arith),
     )
 
 same-length : tie.Need-same-length

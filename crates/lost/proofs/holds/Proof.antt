@@ -48,9 +48,9 @@ forces-requires : tie.Need-forces-requires
 forces-requires c κs = search needs
 
 returns-3 : tie.Need-returns-3
-unfolding attackIn forces
+unfolding attackIn
 returns-3 c =
-    let told = c .before .before .before in
+    let told = c .before .before in
     let named = told .before .before in
     let start = named .before .before .before .before in
     let a = start .args in

@@ -1,5 +1,4 @@
 -- `marks::is_listed` meets its contract, verdict by verdict. Assumes nothing.
-use mathlib.Core.Path.{_≡_}
 use borrow.Author.Needs.{needs}
 use Rattle.marks.proofs.is_listed.Statement.{statement}
 use Rattle.marks.proofs.is_listed.Tie as tie

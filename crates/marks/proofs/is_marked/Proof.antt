@@ -1,5 +1,4 @@
 -- `marks::is_marked` meets its contract, by the first half of the test. Assumes nothing.
-use mathlib.Core.Path.{_≡_}
 use Rattle.marks.proofs.is_marked.Statement.{statement}
 use Rattle.marks.proofs.is_marked.Tie as tie
 use borrow.Author.Tests.{eq-eqb, ne-eqb}

@@ -1,5 +1,4 @@
 -- `marks::rescaled` meets its contract, case by case. Assumes nothing.
-use native.Mathlib.Omega.{arith}
 use borrow.Author.Needs.{needs}
 use borrow.Author.Tests.{eq-eqb, ne-eqb}
 use Rattle.marks.proofs.rescaled.Statement.{statement}

@@ -1,9 +1,41 @@
 -- `rank::mark` meets its contract. Assumes nothing.
-use mathlib.Core.Path.{sym, _∙_, ap}
+use mathlib.Core.Path.{_≡_, sym, _∙_, ap}
 use borrow.Author.Needs.{needs}
-use Rattle.rank.proofs.Passing.{isWin, gains-nothing, gains-by}
+use borrow.Author.Tests.{not-true, not-false}
+use Rattle.rank.specs.Passes.{gains}
+use Rattle.rank.proofs.Passing.{isWin, gains-unseen, gains-nothing, gains-by}
 use Rattle.rank.proofs.mark.Statement.{statement}
 use Rattle.rank.proofs.mark.Tie as tie
+
+-- what was looked at and has no rounds is decided by the search
+searched : (c : tie.After-first-win)
+    → let a = c .before .before .before .before .before .before .before .before .before .before .args in
+    gains (a .table .now) (a .n) (a .t) (a .k) (a .worth .now) (a .i) ≡ isWin (c .first-win .result)
+searched c =
+    let never = c .before .before in
+    let seen = never .before .before .before in
+    let placed = seen .before .before in
+    let a = placed .before .before .before .args in
+    gains-by (a .table .now) (a .n) (a .t) (a .k) (a .worth .now) (a .i) (placed .position-at .ensures) (c .first-win .ensures)
+    (sym (never .before .word-at .ensures) ∙ never .if2 .left)
+    (sym (seen .before .has .ensures) ∙ not-false _ (seen .if1 .left))
+
+position-at-requires : tie.Need-position-at-requires
+position-at-requires c κs = search needs
+
+has-requires : tie.Need-has-requires
+has-requires c κs = search needs
+
+same-length : tie.Need-same-length
+same-length c = search needs
+
+returns : tie.Need-returns
+returns c =
+    let placed = c .before .before in
+    let a = placed .before .before .before .args in
+    let g = gains-unseen (a .table .now) (a .n) (a .t) (a .k) (a .worth .now) (a .i) (placed .position-at .ensures)
+    (sym (c .before .has .ensures) ∙ not-true _ (c .if1 .taken)) in
+    (sym g, rw g)
 
 mul-word-at : tie.Need-mul-word-at
 mul-word-at c = search needs
@@ -14,17 +46,18 @@ add-word-at c = search needs
 word-at-requires : tie.Need-word-at-requires
 word-at-requires c κs = search needs
 
-same-length : tie.Need-same-length
-same-length c = search needs
+same-length-2 : tie.Need-same-length-2
+same-length-2 c = search needs
 
-returns : tie.Need-returns
-returns c =
-    let a = c .before .before .before .before .args in
-    let g = gains-nothing (a .table .now) (a .n) (a .t) (a .k) (a .i) (λ e. c .if1 .taken (c .before .word-at .ensures ∙ e)) in
+returns-2 : tie.Need-returns-2
+returns-2 c =
+    let seen = c .before .before .before in
+    let placed = seen .before .before in
+    let a = placed .before .before .before .args in
+    let g = gains-nothing (a .table .now) (a .n) (a .t) (a .k) (a .worth .now) (a .i) (placed .position-at .ensures)
+    (λ e. c .if2 .taken (c .before .word-at .ensures ∙ e))
+    (sym (seen .before .has .ensures) ∙ not-false _ (seen .if1 .left)) in
     (sym g, rw g)
-
-position-at-requires : tie.Need-position-at-requires
-position-at-requires c κs = search needs
 
 first-win-requires : tie.Need-first-win-requires
 first-win-requires c κs = search needs
@@ -35,19 +68,11 @@ enum-told c = search needs
 enum-told-2 : tie.Need-enum-told-2
 enum-told-2 c = search needs
 
-same-length-2 : tie.Need-same-length-2
-same-length-2 c = search needs
+same-length-3 : tie.Need-same-length-3
+same-length-3 c = search needs
 
-returns-2 : tie.Need-returns-2
-returns-2 c =
-    let searched = c .before .before in
-    let never = searched .before .before .before in
-    let a = never .before .before .before .before .args in
-    let g = gains-by (a .table .now) (a .n) (a .t) (a .k) (a .i) (sym (never .before .word-at .ensures) ∙ never .if1 .left)
-    (searched .before .position-at .ensures)
-    (searched .first-win .ensures)
-    ∙ ap isWin (c .enum-told2 .given .1) in
-    (sym g, rw g)
+returns-3 : tie.Need-returns-3
+returns-3 c = let g = searched (c .before .before) ∙ ap isWin (c .enum-told2 .given .1) in (sym g, rw g)
 
 mul-put-word : tie.Need-mul-put-word
 mul-put-word c = search needs
@@ -58,39 +83,36 @@ add-put-word c = search needs
 put-word-requires : tie.Need-put-word-requires
 put-word-requires c κs = search needs
 
-same-length-3 : tie.Need-same-length-3
-same-length-3 c = search needs
+same-length-4 : tie.Need-same-length-4
+same-length-4 c = search needs
 
-returns-3 : tie.Need-returns-3
-returns-3 c =
+returns-4 : tie.Need-returns-4
+returns-4 c =
     let put = c .before .before in
     let told = put .before .before in
-    let searched = told .before .before in
-    let never = searched .before .before .before in
-    let a = never .before .before .before .before .args in
-    let g = gains-by (a .table .now) (a .n) (a .t) (a .k) (a .i) (sym (never .before .word-at .ensures) ∙ never .if1 .left)
-    (searched .before .position-at .ensures)
-    (searched .first-win .ensures)
-    ∙ ap isWin (told .enum-told .given .1) in
+    let g = searched (told .before .before) ∙ ap isWin (told .enum-told .given .1) in
     (sym g, rw g (put .put-word .ensures))
 
 pub mark-spec : {M : Type 1} → statement M
 mark-spec =
     tie.close
     (tie.spec
+    position-at-requires
+    has-requires
+    same-length
+    returns
     mul-word-at
     add-word-at
     word-at-requires
-    same-length
-    returns
-    position-at-requires
+    same-length-2
+    returns-2
     first-win-requires
     enum-told
     enum-told-2
-    same-length-2
-    returns-2
+    same-length-3
+    returns-3
     mul-put-word
     add-put-word
     put-word-requires
-    same-length-3
-    returns-3)
+    same-length-4
+    returns-4)

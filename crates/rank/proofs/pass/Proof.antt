@@ -17,7 +17,7 @@ use Rattle.rank.proofs.pass.Statement.{statement}
 use Rattle.rank.proofs.pass.Tie as tie
 
 abbrev Inv-loop : tie.InvT-loop
-Inv-loop table₀ n t k marked₀ i₀ table marked i =
+Inv-loop table₀ n t k worth marked₀ i₀ table marked i =
     (i ≤ n)
     × (length table ≡ length table₀)
     × (
@@ -27,7 +27,7 @@ Inv-loop table₀ n t k marked₀ i₀ table marked i =
     × (any (ranked bisimulation t k) (reached bisimulation t) ≡ marked || any (ranked bisimulation t k) (drop i (reached bisimulation t)))
 
 abbrev μ-loop : tie.MeasureT-loop
-μ-loop table₀ n t k marked₀ i₀ table marked i = n - i
+μ-loop table₀ n t k worth marked₀ i₀ table marked i = n - i
 
 loop-holds : tie.Need-loop-holds Inv-loop μ-loop
 loop-holds c =
@@ -45,8 +45,8 @@ mark-requires c κs =
     let start = at .before .before in
     let a = start .args in (
       rw (at .loop .inv .2, start .pre .0 .2 .counted)
-          (partly-searchable (start .pre .1) _ (level bisimulation (a .t) (a .k)) (level bisimulation (a .t) (a .k - 1)) (at .loop .i)),
-      (start .pre .1, c .before .loop-test .taken),
+          (partly-searchable (start .pre .1 .0) _ (level bisimulation (a .t) (a .k)) (level bisimulation (a .t) (a .k - 1)) (at .loop .i)),
+      (start .pre .1 .0, c .before .loop-test .taken),
     )
 
 add-i : tie.Need-add-i Inv-loop μ-loop
@@ -67,11 +67,15 @@ loop-again c =
     let z = a .t .start in
     let inside : at .loop .i < length l = omega (arith, begins .counted, here .loop-test .taken) in
     let found = marked .mark .ensures .0
-    ∙ pass-gains (start .pre .1) _ (a .n) (a .k) (at .loop .i) z (begins .counted) k-least k-small (here .loop-test .taken) (at .loop .inv .2) in (
+    ∙ pass-gains (start .pre .1 .0) _ (a .n) (a .k) (at .loop .i) z (begins .counted) k-least k-small (here .loop-test .taken) (at .loop .inv .2)
+    _
+    (start .pre .1 .1) in (
       search needs,
       marked .mark .kept .0 ∙ at .loop .inv .1,
       marked .mark .ensures .1
-          ∙ pass-next (start .pre .1) _ (a .n) (a .k) (at .loop .i) z (begins .counted) k-least k-small (here .loop-test .taken) (at .loop .inv .2),
+          ∙ pass-next (start .pre .1 .0) _ (a .n) (a .k) (at .loop .i) z (begins .counted) k-least k-small (here .loop-test .taken) (at .loop .inv .2)
+          _
+          (start .pre .1 .1),
       any-next (ranked bisimulation (a .t) (a .k)) l (at .loop .i) z (at .loop .marked) (c .if1 .marked) inside
           (rw (← found)
           (⊎-elim (λ w. w .1 ∙ rw (w .0 .taken) (sym (or-true (at .loop .marked))))

@@ -1,5 +1,4 @@
 -- `certify::records::put_loss` meets its contract: a kind, a position, an attack and rounds, one behind another. Assumes nothing.
-use mathlib.Core.Path.{_≡_}
 use native.Mathlib.Omega.{arith}
 use denote.Ref.{now}
 use borrow.Author.Needs.{needs}

@@ -1,5 +1,4 @@
 -- `certify::records::put_record` meets its contract, verdict by verdict. Assumes nothing.
-use mathlib.Core.Path.{_≡_}
 use native.Mathlib.Omega.{arith}
 use borrow.Author.Needs.{needs}
 use Rattle.certify_laws.specs.Records.{recordAt}

@@ -3,9 +3,11 @@
 //!
 //! - Exploring tries, at every position reached, each left edge with each right edge that starts there and has its tag.
 //! - Ranking goes over the positions in passes 1, 2 and so on, until a pass finds no further loss: one pass more than the
-//!   most rounds of a position that is lost. In pass k it takes the positions that are not lost in fewer than k rounds. At
-//!   each it tries attacks in order of side, edge and case, until one wins; and for an attack its replies by edge number,
-//!   until one leads to a position that is not lost in fewer than k rounds. Each reply looked at is a pair tried.
+//!   most rounds of a position that is lost. In pass k it takes the positions that are not lost in fewer than k rounds and
+//!   whose pair of states is open: from pass 2 on, a left and a right edge of one tag lead from it to the pair of states of
+//!   a position of k - 1 rounds. At each it tries attacks in order of side, edge and case, until one wins; and for an attack
+//!   its replies by edge number, until one leads to a position that is not lost in fewer than k rounds. Each reply looked at
+//!   is a pair tried.
 //!
 //! Pass 0, sorting and writing the certificate are not counted; they are in the time.
 use reference::compare::NEVER_LOST;
@@ -48,15 +50,59 @@ impl Rounds {
     }
 }
 
+/// The pair of a position's states.
+fn pair(position: &Position) -> usize {
+    (position.left as usize) << 4 | position.right as usize
+}
+
+/// The pairs of states from which a left and a right edge of one tag lead to one of these.
+fn sources(task: &Task, to: &[bool; 256]) -> [bool; 256] {
+    let mut from = [false; 256];
+    for left in &task.left.edges {
+        for right in task.right.edges.iter().filter(|e| e.tag == left.tag) {
+            if to[(left.to as usize) << 4 | right.to as usize] {
+                from[(left.from as usize) << 4 | right.from as usize] = true;
+            }
+        }
+    }
+    from
+}
+
+/// For each pair of states, in how many of the passes 1 to k it is open, for k from 0 on.
+struct Open {
+    passes: Vec<[u64; 256]>,
+}
+
+impl Open {
+    fn new(task: &Task, entries: &[(Position, u32)], passes: u64) -> Open {
+        let mut open = vec![[0; 256], [1; 256]];
+        for k in 2..=passes {
+            let mut lost = [false; 256];
+            entries.iter().filter(|(_, n)| *n as u64 == k - 1).for_each(|(p, _)| lost[pair(p)] = true);
+            let now = sources(task, &lost);
+            let before = open[open.len() - 1];
+            open.push(std::array::from_fn(|i| before[i] + now[i] as u64));
+        }
+        Open { passes: open }
+    }
+
+    /// The open passes after pass `after`, up to pass `last`.
+    fn between(&self, pair: usize, after: u64, last: u64) -> u64 {
+        let upto = |k: u64| self.passes[k as usize][pair];
+        if after < last { upto(last) - upto(after) } else { 0 }
+    }
+}
+
 pub fn tried(task: &Task, entries: &[(Position, u32)]) -> Tried {
     let rounds = Rounds::new(entries);
     let lost = entries.iter().map(|(_, n)| *n).filter(|n| *n != NEVER_LOST);
     let passes = lost.max().unwrap_or(0) as u64 + 1;
+    let open = Open::new(task, entries, passes);
     let positions = || entries.iter().map(|(position, _)| position);
     Tried {
         passes,
         exploring: positions().map(|p| same_tag(task, p)).sum(),
-        ranking: positions().map(|p| looked_at(task, &rounds, passes, p)).sum(),
+        ranking: positions().map(|p| looked_at(task, &rounds, &open, passes, p)).sum(),
     }
 }
 
@@ -66,7 +112,7 @@ fn same_tag(task: &Task, position: &Position) -> u64 {
 }
 
 /// The replies looked at, over all passes that take this position.
-fn looked_at(task: &Task, rounds: &Rounds, passes: u64, position: &Position) -> u64 {
+fn looked_at(task: &Task, rounds: &Rounds, open: &Open, passes: u64, position: &Position) -> u64 {
     let own = rounds.get(position);
     if own == 0 {
         return 0;
@@ -76,7 +122,7 @@ fn looked_at(task: &Task, rounds: &Rounds, passes: u64, position: &Position) -> 
     let mut last = own.min(passes);
     for attack in attacks(task, position) {
         let targets: Vec<u64> = replies(task, position, attack).iter().map(|r| rounds.get(&r.leads_to)).collect();
-        sum += looked_at_in(&targets, last);
+        sum += looked_at_in(&targets, last, |after, last| open.between(pair(position), after, last));
         if last == own && targets.iter().all(|&n| n < own) {
             last = own - 1;
         }
@@ -84,12 +130,12 @@ fn looked_at(task: &Task, rounds: &Rounds, passes: u64, position: &Position) -> 
     sum
 }
 
-/// A reply is looked at in the passes up to `last` in which all replies before it lead to positions lost in fewer rounds.
-fn looked_at_in(targets: &[u64], last: u64) -> u64 {
+/// A reply is looked at in the open passes up to `last` in which all replies before it lead to positions lost in fewer rounds.
+fn looked_at_in(targets: &[u64], last: u64, open: impl Fn(u64, u64) -> u64) -> u64 {
     let mut most = 0;
     let mut sum = 0;
     for &target in targets {
-        sum += last.saturating_sub(most);
+        sum += open(most, last);
         most = most.max(target);
     }
     sum
@@ -112,7 +158,11 @@ mod tests {
         }
         let mut looked_at = 0;
         for pass in 1.. {
-            let open: Vec<Position> = entries.iter().map(|e| e.0).filter(|p| !lost.contains_key(p)).collect();
+            let mut last = [false; 256];
+            lost.iter().filter(|(_, n)| **n + 1 == pass).for_each(|(p, _)| last[pair(p)] = true);
+            let sources = if pass == 1 { [true; 256] } else { sources(task, &last) };
+            let taken = |p: &Position| sources[pair(p)] && !lost.contains_key(p);
+            let open: Vec<Position> = entries.iter().map(|e| e.0).filter(taken).collect();
             let before = lost.clone();
             for position in open {
                 let wins = |attack| {

@@ -3,6 +3,7 @@
 //!     measure count TASK                    what the task takes, by the reference
 //!     measure library TASK ENTRIES LENGTH   nuldopa_compare with a table of ENTRIES entries and LENGTH bytes of certificate
 //!     measure baseline TASK                 the reference's heap baseline
+//!     measure check TASK                    nuldopa_check of the task's own certificate
 mod cost;
 mod pairs;
 
@@ -73,6 +74,17 @@ fn heap(bytes: &[u8]) {
     println!("kilobytes {}", cost::peak_kilobytes());
 }
 
+fn check(bytes: &[u8]) {
+    let solution = solve(bytes);
+    let mut certificate = vec![0; solution.certificate.len()];
+    solution.deliver(&mut vec![0; solution.entries.len() * ENTRY_LENGTH], &mut certificate);
+    let seconds = least_seconds(|| assert_eq!(boundary::check(bytes, &certificate).refusal, 0));
+    let records = nuldopa::records(&certificate).count();
+    println!("records {records}");
+    println!("seconds {seconds:.6}");
+    println!("nanoseconds_a_record {:.0}", seconds * 1e9 / records as f64);
+}
+
 fn main() {
     let arguments: Vec<String> = std::env::args().skip(1).collect();
     let words: Vec<&str> = arguments.iter().map(|a| a.as_str()).collect();
@@ -82,6 +94,7 @@ fn main() {
         ["count", name] => count(&file(name)),
         ["library", name, entries, length] => library(&file(name), number(entries), number(length)),
         ["baseline", name] => heap(&file(name)),
-        _ => panic!("measure count, library or baseline"),
+        ["check", name] => check(&file(name)),
+        _ => panic!("measure count, library, baseline or check"),
     }
 }

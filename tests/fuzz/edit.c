@@ -1,0 +1,28 @@
+#include "edit.h"
+#include "../../include/nuldopa.h"
+#include <string.h>
+
+static size_t drop_record(uint8_t *records, size_t length, size_t bytes, uint32_t number)
+{
+    size_t at = number % (length / bytes) * bytes;
+    memmove(records + at, records + at + bytes, length - at - bytes);
+    return length - bytes;
+}
+
+static void step_byte(uint8_t *records, size_t length, size_t bytes, uint32_t number)
+{
+    size_t record = number / 32 % (length / bytes), field = 1 + number / 2 % 16 % (bytes - 1);
+    uint8_t *byte = records + record * bytes + field;
+    *byte = (uint8_t)(*byte + (number % 2 == 0 ? 1 : UINT8_MAX));
+}
+
+size_t edit_certificate(uint8_t *certificate, size_t length, uint32_t number)
+{
+    size_t bytes = length > 0 && certificate[0] == NULDOPA_EQUAL ? NULDOPA_KEPT_BYTES : NULDOPA_LOST_BYTES;
+    if (length < bytes)
+        return length;
+    if (number % 4 == 0)
+        return drop_record(certificate, length, bytes, number / 4);
+    step_byte(certificate, length, bytes, number / 4);
+    return length;
+}

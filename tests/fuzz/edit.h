@@ -1,0 +1,12 @@
+/* Small changes of a certificate, after which it may still be accepted. */
+#ifndef EDIT_H
+#define EDIT_H
+
+#include <stddef.h>
+#include <stdint.h>
+
+/* Drops a record, or makes a byte of one, but not its kind, one more or one less. The number says which. Returns the length
+ * that is left. */
+size_t edit_certificate(uint8_t *certificate, size_t length, uint32_t number);
+
+#endif

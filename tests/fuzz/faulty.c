@@ -1,0 +1,119 @@
+/* A library with a fault, for `tests/fuzz/faults`: the linker puts these functions in the place of the library's, and the
+ * environment says what they do wrong before or after they call the true ones. */
+#include "../../include/nuldopa.h"
+#include <stdlib.h>
+#include <string.h>
+
+struct nuldopa_answer __real_nuldopa_compare(const uint8_t *task, size_t task_length, uint8_t *table, size_t table_length,
+                                             uint8_t *certificate, size_t certificate_length);
+struct nuldopa_answer __real_nuldopa_check(const uint8_t *task, size_t task_length, const uint8_t *certificate,
+                                           size_t certificate_length);
+struct nuldopa_answer __wrap_nuldopa_compare(const uint8_t *task, size_t task_length, uint8_t *table, size_t table_length,
+                                             uint8_t *certificate, size_t certificate_length);
+struct nuldopa_answer __wrap_nuldopa_check(const uint8_t *task, size_t task_length, const uint8_t *certificate,
+                                           size_t certificate_length);
+
+static volatile uint8_t sink;
+
+static uint32_t fault_is(const char *name)
+{
+    const char *fault = getenv("NULDOPA_FAULT");
+    return fault != NULL && strcmp(fault, name) == 0;
+}
+
+/* What is returned. */
+static struct nuldopa_answer altered(struct nuldopa_answer a)
+{
+    if (a.refusal != 0) {
+        a.length = fault_is("a refusal has a length");
+        if (fault_is("another refusal") && a.refusal > 1)
+            a.refusal--;
+        return a;
+    }
+    if (fault_is("the other verdict"))
+        a.verdict ^= NULDOPA_EQUAL ^ NULDOPA_DIFFER;
+    a.positions += fault_is("a position too many");
+    a.rounds += fault_is("a round too many");
+    a.length -= fault_is("a certificate cut");
+    return a;
+}
+
+/* What is in the buffers: bytes of them, and one on either side. */
+static void spoil_table(struct nuldopa_answer a, uint8_t *table, size_t length)
+{
+    int read = a.refusal == 0 || a.refusal > NULDOPA_BAD_PAIR;
+    if (fault_is("table changed by 1 to 10") && !read && length > 0)
+        table[length - 1]++;
+    if (fault_is("table not cleared") && read && a.refusal != 0 && length > 0)
+        table[length - 1]++;
+    if (fault_is("spare bytes not cleared") && a.refusal == 0 && length > a.positions * (size_t)NULDOPA_ENTRY_BYTES)
+        table[length - 1]++;
+    if (fault_is("entries not rising") && a.positions > 1)
+        memcpy(table + NULDOPA_ENTRY_BYTES, table, NULDOPA_ENTRY_BYTES);
+    if (fault_is("other rounds in the table") && a.positions > 0)
+        table[11] ^= 1;
+    if (fault_is("table written before its start"))
+        table[-1]++;
+    if (fault_is("table written past its end"))
+        table[length]++;
+}
+
+static void spoil_certificate(struct nuldopa_answer a, uint8_t *certificate, size_t length)
+{
+    if (fault_is("buffer changed by a refusal") && a.refusal != 0 && length > 0)
+        certificate[0]++;
+    if (fault_is("rest of the buffer changed") && a.refusal == 0 && length > a.length)
+        certificate[a.length]++;
+    if (fault_is("another position listed") && a.refusal == 0)
+        certificate[1]++;
+    if (fault_is("another attack") && a.verdict == NULDOPA_DIFFER)
+        certificate[10]++;
+    if (fault_is("buffer written before its start"))
+        certificate[-1]++;
+    if (fault_is("buffer written past its end"))
+        certificate[length]++;
+}
+
+static void spoil_task(uint8_t *task, size_t length)
+{
+    if (fault_is("task read past its end"))
+        sink = task[length];
+    if (fault_is("task read before its start"))
+        sink = task[-1];
+    if (fault_is("task written") && length > 0)
+        task[0]++;
+}
+
+struct nuldopa_answer __wrap_nuldopa_compare(const uint8_t *task, size_t task_length, uint8_t *table, size_t table_length,
+                                             uint8_t *certificate, size_t certificate_length)
+{
+    if (fault_is("what the table held counts") && table_length > 0 && table[0] == 0x5a)
+        task_length = 0;
+    struct nuldopa_answer a =
+        __real_nuldopa_compare(task, task_length, table, table_length, certificate, certificate_length);
+    spoil_task((uint8_t *)(uintptr_t)task, task_length);
+    spoil_table(a, table, table_length);
+    spoil_certificate(a, certificate, certificate_length);
+    return altered(a);
+}
+
+struct nuldopa_answer __wrap_nuldopa_check(const uint8_t *task, size_t task_length, const uint8_t *certificate,
+                                           size_t certificate_length)
+{
+    struct nuldopa_answer a = __real_nuldopa_check(task, task_length, certificate, certificate_length);
+    if (fault_is("all certificates accepted") && a.refusal == NULDOPA_CERTIFICATE_NOT_ACCEPTED)
+        a = (struct nuldopa_answer){0, NULDOPA_EQUAL, 0, 0, 0};
+    if (fault_is("no certificate accepted") && a.refusal == 0)
+        a = nuldopa_refused(NULDOPA_CERTIFICATE_NOT_ACCEPTED);
+    if (fault_is("accepted with fewer rounds") && a.rounds > 0)
+        a.rounds--;
+    if (fault_is("accepted with a length") && a.refusal == 0)
+        a.length = certificate_length;
+    if (fault_is("the checker gives 12") && a.refusal == NULDOPA_CERTIFICATE_ILL_FORMED)
+        a.refusal = NULDOPA_BUFFER_TOO_SMALL;
+    if (fault_is("certificate read past its end"))
+        sink = certificate[certificate_length];
+    if (fault_is("certificate written") && certificate_length > 0)
+        ((uint8_t *)(uintptr_t)certificate)[0]++;
+    return a;
+}

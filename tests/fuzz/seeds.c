@@ -1,0 +1,69 @@
+/* seeds FOLDER TASK...: writes inputs of the fuzzer into the folder, two for each task file: one for the comparer, its lent
+ * sizes by turns exact, near what is needed and small; and one for the checker, with the comparer's own certificate. */
+#include "../../include/nuldopa.h"
+#include "input.h"
+#include <stdio.h>
+#include <stdlib.h>
+
+enum { ENTRIES = 4000 };
+
+static uint8_t task[MOST_INPUT_BYTES], bytes[MOST_INPUT_BYTES];
+static uint8_t table[ENTRIES * NULDOPA_ENTRY_BYTES], certificate[ENTRIES * NULDOPA_LOST_BYTES];
+
+static size_t read_file(const char *name)
+{
+    FILE *file = fopen(name, "rb");
+    if (file == NULL) {
+        perror(name);
+        exit(1);
+    }
+    size_t length = fread(task, 1, sizeof task, file);
+    fclose(file);
+    return length;
+}
+
+/* An input that is too long is left out. */
+static void write_input(const char *folder, int number, const struct input *input)
+{
+    char name[4096];
+    size_t length = input_write(input, bytes, sizeof bytes);
+    if (length == 0)
+        return;
+    snprintf(name, sizeof name, "%s/%05d-%s", folder, number, input->calls_checker ? "check" : "compare");
+    FILE *file = fopen(name, "wb");
+    if (file == NULL || fwrite(bytes, 1, length, file) != length || fclose(file) != 0) {
+        perror(name);
+        exit(1);
+    }
+}
+
+static unsigned choice(int number)
+{
+    return number % 3 == 0 ? CHOICE_OF_NEEDED + NEAR_BELOW
+                           : (unsigned)(number % 3 == 1 ? CHOICE_OF_NEEDED : 0) + (unsigned)number * 7;
+}
+
+static void write_inputs(const char *folder, int number, size_t task_length)
+{
+    struct nuldopa_answer answer =
+        nuldopa_compare(task, task_length, table, sizeof table, certificate, sizeof certificate);
+    struct input input = {.edge = number % 2 == 0 ? AT_END : AT_START, .task = task, .task_length = task_length};
+    input.table_choice = choice(number);
+    input.certificate_choice = choice(number / 3);
+    input.proposed = certificate;
+    input.proposed_length = answer.length;
+    write_input(folder, number, &input);
+    input.calls_checker = 1;
+    write_input(folder, number, &input);
+}
+
+int main(int count, char **arguments)
+{
+    if (count < 3) {
+        fprintf(stderr, "usage: seeds FOLDER TASK...\n");
+        return 2;
+    }
+    for (int i = 2; i < count; i++)
+        write_inputs(arguments[1], i - 2, read_file(arguments[i]));
+    return 0;
+}

@@ -1,6 +1,6 @@
 // The certificate of a ranked table (01, "Verdict, table, certificate"), written with no memory but the table: what a lost
 // start's attacks lead to is marked in it, and the marks are cleared at the end.
-mod records;
+mod fields;
 mod writing;
 
 use crate::writing::write;
@@ -26,13 +26,16 @@ pub fn certify(t: Task, table: &mut [u8], n: usize, buffer: &mut [u8]) -> Certif
     requires { ⌜ Ranked t n (now table) ⌝ }
     ensures { λ r. ⌜ Certifies (certificateOf t) (now (table .entry)) (now (buffer .entry)) r (now (table .exit)) (now (buffer .exit)) ⌝ }
 {
+    let left = index::edges(t.left);
+    let right = index::edges(t.right);
+    let states = index::states(t);
     let start = t.start;
     let rounds = rounds_of(table, n, start);
     if rounds == NEVER {
-        return write(table, n, t, Verdict::Equal, buffer);
+        return write(table, n, t, &left, &right, &states, Verdict::Equal, buffer);
     }
-    prepare(table, n, t, rounds);
-    let answer = write(table, n, t, Verdict::Differ, buffer);
+    prepare(table, n, t, &left, &right, &states, rounds);
+    let answer = write(table, n, t, &left, &right, &states, Verdict::Differ, buffer);
     rescale(table, n, Scale::Halve);
     answer
 }

@@ -1,11 +1,13 @@
-// The records of all entries that have one, written if they fit.
+// The records of all entries that have one, written if they fit. The task is read by its index; it is taken too, to say whose
+// index it is.
 use crate::Certified;
-use crate::records::put_record;
-use crate::records::width;
+use crate::fields::put_record;
+use crate::fields::width;
 use fra::Task;
 use marks::count_listed;
 use marks::is_listed;
 use outcome::Verdict;
+use replies::fan;
 use table::ENTRY;
 use table::ROUNDS;
 use table::word_at;
@@ -14,15 +16,24 @@ ghost use mathlib.Core.Path.{_≡_};
 ghost use lib.ListN.{length};
 ghost use lib.Seq.{sets};
 ghost use Rattle.fra.specs.Rules.{bisimulation};
-ghost use Rattle.fra.specs.Valid.{Valid};
+ghost use Rattle.index.specs.Index.{Indexed};
 ghost use Rattle.wins.specs.Judgement.{Searchable};
 ghost use Rattle.certify_laws.specs.Records.{recordsOf};
 ghost use Rattle.certify.specs.Outcome.{Certifies};
 
 // Writes the records from the buffer's start.
-fn put_records(table: &[u8], n: usize, t: Task, verdict: Verdict, buffer: &mut [u8])
+fn put_records(
+    table: &[u8],
+    n: usize,
+    t: Task,
+    left: &[u8; fan::SIZE],
+    right: &[u8; fan::SIZE],
+    states: &[u8; index::STATES],
+    verdict: Verdict,
+    buffer: &mut [u8],
+)
     requires { ⌜ Searchable n (now table) ⌝ }
-    requires { ⌜ Valid 6 t ⌝ }
+    requires { ⌜ Indexed t (now left) (now right) (now states) ⌝ }
     requires { ⌜ length (recordsOf bisimulation t verdict n (now table)) ≤ length (now buffer) ⌝ }
     ensures { λ _. ⌜ now (buffer .exit) ≡ sets (now (buffer .entry)) 0 (recordsOf bisimulation t verdict n (now (table .entry))) ⌝ }
 {
@@ -30,7 +41,7 @@ fn put_records(table: &[u8], n: usize, t: Task, verdict: Verdict, buffer: &mut [
     let mut i = 0;
     while i < n {
         if is_listed(verdict, word_at(table, i * ENTRY + ROUNDS)) {
-            put_record(table, n, t, verdict, i, buffer, at);
+            put_record(table, n, left, right, states, verdict, i, buffer, at);
             at += width(verdict);
         }
         i += 1;
@@ -38,9 +49,18 @@ fn put_records(table: &[u8], n: usize, t: Task, verdict: Verdict, buffer: &mut [
 }
 
 // Writes the records, counted first, if they fit.
-pub fn write(table: &[u8], n: usize, t: Task, verdict: Verdict, buffer: &mut [u8]) -> Certified
+pub fn write(
+    table: &[u8],
+    n: usize,
+    t: Task,
+    left: &[u8; fan::SIZE],
+    right: &[u8; fan::SIZE],
+    states: &[u8; index::STATES],
+    verdict: Verdict,
+    buffer: &mut [u8],
+) -> Certified
     requires { ⌜ Searchable n (now table) ⌝ }
-    requires { ⌜ Valid 6 t ⌝ }
+    requires { ⌜ Indexed t (now left) (now right) (now states) ⌝ }
     requires { ⌜ n < 2 ^ 30 ⌝ }
     ensures { λ r. ⌜ Certifies (recordsOf bisimulation t verdict n (now (table .entry))) (now (table .entry)) (now (buffer .entry)) r (now (table .entry)) (now (buffer .exit)) ⌝ }
 {
@@ -48,6 +68,6 @@ pub fn write(table: &[u8], n: usize, t: Task, verdict: Verdict, buffer: &mut [u8
     if buffer.len() < length {
         return Certified::TooLong;
     }
-    put_records(table, n, t, verdict, buffer);
+    put_records(table, n, t, left, right, states, verdict, buffer);
     Certified::Length(length)
 }

@@ -1,63 +1,28 @@
 -- New rounds leave a table its length and its positions, so that they can be looked up all the while. Assumes nothing.
-use Prim.Native.Nat.{ℕ, zero, suc, _+_, _*_, _≤_, _<_}
+use Prim.Native.Nat.{ℕ, zero, suc, _+_, _*_, _≤_}
 use mathlib.Core.Path.{_≡_, refl, sym, _∙_, subst}
-use mathlib.Core.Logic.{inl, inr}
 use mathlib.Core.Bool.{Bool, true, false, cond}
-use mathlib.Core.List.{List, [], _∷_, map}
+use mathlib.Core.List.{List, [], _∷_}
 use native.Mathlib.Omega.{arith}
-use native.Mathlib.Decide.{decLe}
-use lib.ListN.{length, getD, take, drop, length-take, length-drop}
+use lib.ListN.{length}
 use lib.Dec.{eqb}
-use lib.Seq.{length-sets, getD-take, getD-drop, ext-getD}
-use Rattle.fra.specs.Lists.{count}
+use lib.Seq.{length-sets}
 use Rattle.fra.specs.Rules.{Rules}
 use Rattle.fra.specs.Position.{Rising}
 use Rattle.fra.specs.declared.Position.{Position}
 use Rattle.fra.specs.declared.Task.{Task}
 use Rattle.outcome.specs.Bytes.{word}
-use Rattle.outcome.specs.Check.{positionOf}
-use Rattle.table_laws.specs.Table.{putWord, positionAt, positions}
-use Rattle.table_laws.proofs.Words.{put-other}
+use Rattle.table_laws.specs.Table.{positions}
 use Rattle.table_laws.proofs.Search.{positions-length}
 use Rattle.table.specs.Places.{placeOf}
 use Rattle.table.specs.declared.Place.{Place}
 use Rattle.table.specs.declared.Place.the-variants.{At, Nowhere}
 use Rattle.rank_laws.specs.Rows.{roundsAt}
+use Rattle.rank_laws.proofs.Positions.{positions-kept}
 use Rattle.wins.specs.Judgement.{Searchable}
 use Rattle.wins.proofs.Judging.{place-within}
 use Rattle.certify_laws.specs.Words.{doubled, withMark}
 use Rattle.certify_laws.specs.Marking.{changedAt, changed, markedAt, marked, markedAll, ledFrom, passed, marking, prepared}
-
--- ── One entry ──
-
-module _ (t : List ℕ) (i w j : ℕ) where
-  abbrev u : List ℕ
-  u = putWord t (i * 12 + 8) w
-
-  -- the bytes of positions are others
-  byte-kept : (k : ℕ) → k < 8 → getD (drop (j * 12) u) k 0 ≡ getD (drop (j * 12) t) k 0
-  byte-kept k b =
-      getD-drop (j * 12) u k 0
-      ∙ put-other t (i * 12 + 8) w (j * 12 + k) (elim (decLe j i) [ yes c ↦ inl (omega arith) | no c ↦ inr (omega arith) ])
-      ∙ sym (getD-drop (j * 12) t k 0)
-
-  partners-kept : take 6 (drop 2 (drop (j * 12) u)) ≡ take 6 (drop 2 (drop (j * 12) t))
-  partners-kept =
-      ext-getD 0 (take 6 (drop 2 (drop (j * 12) u))) (take 6 (drop 2 (drop (j * 12) t)))
-      (simp (length-take, length-drop, length-sets))
-      (λ k b.
-      let c : k < 6 = omega (arith, length-take 6 (drop 2 (drop (j * 12) u))) in
-      getD-take 6 (drop 2 (drop (j * 12) u)) k 0 c
-      ∙ getD-drop 2 (drop (j * 12) u) k 0
-      ∙ byte-kept (2 + k) (omega arith)
-      ∙ sym (getD-take 6 (drop 2 (drop (j * 12) t)) k 0 c ∙ getD-drop 2 (drop (j * 12) t) k 0))
-
-  position-kept : positionAt u j ≡ positionAt t j
-  unfolding positionOf
-  position-kept =
-      λ x. record { left = byte-kept 0 (omega arith) x; right = byte-kept 1 (omega arith) x; partners = partners-kept x }
-
--- ── Tables ──
 
 -- an entry that a look-up finds lies in the table
 pub found-room : {n : ℕ} {t : List ℕ} → Searchable n t → (q : Position) (i : ℕ) → placeOf q (positions n t) ≡ At i
@@ -80,11 +45,10 @@ searchable-kept s k =
     record { room = omega (arith, s .room, k .size); rising = subst Rising (sym (k .same)) (s .rising) }
 
 pub kept-changed-at : (f : ℕ → ℕ) (n i : ℕ) (t : List ℕ) → Kept n t (changedAt f i t)
-unfolding positions
 kept-changed-at f n i t =
     record {
       size = length-sets t (i * 12 + 8) (word (f (roundsAt t i)));
-      same = λ x. map (λ j. position-kept t i (f (roundsAt t i)) j x) (count 0 n);
+      same = positions-kept t i (f (roundsAt t i)) n;
     }
 
 pub kept-changed : (f : ℕ → ℕ) (n i : ℕ) (t : List ℕ) → Kept n t (changed f i t)

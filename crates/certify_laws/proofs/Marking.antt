@@ -4,7 +4,7 @@
 use Prim.Native.Nat.{ℕ, zero, suc, _+_, _*_, _-_, _^_, _≤_, _<_}
 use mathlib.Core.Path.{_≡_, refl, sym, _∙_, ap, subst}
 use mathlib.Core.Logic.{_↔_}
-use mathlib.Core.Bool.{Bool, true, false, or-false}
+use mathlib.Core.Bool.{Bool, true, false, cond, or-false}
 use mathlib.Core.List.{List, [], _∷_, _++_, List·Memᴰ·head, List·Memᴰ·tail}
 use mathlib.Core.Option.{Option, none, some}
 use native.Mathlib.Omega.{arith}
@@ -14,16 +14,17 @@ use lib.Dec.{ltb, eqb}
 use borrow.Author.Tests.{eq-eqb, ne-eqb}
 use borrow.Author.Count.{below-more}
 use Rattle.fra.specs.Lists.{_∈_}
-use Rattle.fra.specs.Rules.{Rules}
+use Rattle.fra.specs.Rules.{Rules, modelOf}
 use Rattle.fra.specs.Position.{unmatched}
-use Rattle.fra.specs.Game.{lostWithin}
+use Rattle.fra.specs.Game.{attacks, lostWithin}
 use Rattle.fra.specs.Reach.{onward, reached, rounds}
 use Rattle.fra.specs.Valid.{Valid}
 use Rattle.fra.specs.declared.Position.{Position}
 use Rattle.fra.specs.declared.Task.{Task}
 use Rattle.fra.specs.declared.Attack.{Attack}
 use Rattle.fra_laws.proofs.Tests.{not-both, fails-unless}
-use Rattle.fra_laws.proofs.Legal.{legal-facts}
+use Rattle.fra_laws.proofs.Lists.{first-found}
+use Rattle.fra_laws.proofs.Legal.{legal-facts, attack-edge-exists}
 use Rattle.fra_laws.proofs.Reached.{reached-rising, reached-legal, reached-after}
 use Rattle.fra_laws.proofs.Rounds.{rank-some}
 use Rattle.outcome.specs.Check.{same}
@@ -35,6 +36,7 @@ use Rattle.table.specs.Places.{placeOf}
 use Rattle.table.specs.declared.Place.the-variants.{At}
 use Rattle.rank_laws.specs.Levels.{level}
 use Rattle.rank_laws.specs.Rows.{rows, roundsAt}
+use Rattle.rank_laws.specs.Winner.{winner}
 use Rattle.rank_laws.proofs.Levels.{level-judges}
 use Rattle.rank_laws.proofs.Winners.{chosen-winner, winner-same}
 use Rattle.wins.specs.Judgement.{fewerAt, lostBefore}
@@ -48,20 +50,35 @@ use Rattle.certify_laws.proofs.Marks.{also, alsoAll, also-has, rankOf, 
 
 -- ── Bytes: the table after one entry, and after one pass ──
 
+-- an attack that was found
+found-is : (o : Option Attack) (a : Attack) → winOf o ≡ By a → o ≡ some a
+found-is none a e = let z : _≡_ {A = ℕ} 0 1 = cc in absurd (omega arith)
+found-is (some b) a e = cc
+
 -- an attack of entry i that was found, or none
 module _ (g : Rules) (t : Task) (n k i : ℕ) (table : List ℕ) where
-  pub led-by : (a : Attack) → winOf (attackBy g t n table k (positionAt table i)) ≡ By a
-      → ledFrom g t n k i table ≡ markedAll n (attackLeads t (positionAt table i) (some a)) table
-  unfolding ledFrom
-  led-by a e = rw (is (attackBy g t n table k (positionAt table i)) e)
-    where
-      is : (o : Option Attack) → winOf o ≡ By a → o ≡ some a
-      is none e = let z : _≡_ {A = ℕ} 0 1 = cc in absurd (omega arith)
-      is (some b) e = cc
+  abbrev attack : Option Attack
+  attack = attackBy g t n table k (positionAt table i)
 
-  pub led-nowhere : winOf (attackBy g t n table k (positionAt table i)) ≡ Nobody → ledFrom g t n k i table ≡ table
+  pub led-by : (a : Attack) → winOf attack ≡ By a → ledFrom g t n k i table ≡ markedAll n (attackLeads t (positionAt table i) (some a)) table
+  unfolding ledFrom
+  led-by a e = rw (found-is attack a e)
+
+  -- its edge is one of its side
+  pub led-exists : (a : Attack) → winOf attack ≡ By a → a .edge < modelOf t (a .side) .«edge_count»
+  unfolding attackBy winner
+  led-exists a e = by (eqb k 0) (found-is attack a e)
+    where
+      p : Position
+      p = positionAt table i
+
+      by : (b : Bool) → cond b none (winner g t (lostBefore table n (k * 2)) p) ≡ some a → a .edge < modelOf t (a .side) .«edge_count»
+      by true d = let z : _≡_ {A = ℕ} 0 1 = cc in absurd (omega arith)
+      by false d = attack-edge-exists g t p a (first-found _ (attacks g t p) a d .0)
+
+  pub led-nowhere : winOf attack ≡ Nobody → ledFrom g t n k i table ≡ table
   unfolding ledFrom attackLeads markedAll
-  led-nowhere e = rw (is (attackBy g t n table k (positionAt table i)) e)
+  led-nowhere e = rw (is attack e)
     where
       is : (o : Option Attack) → winOf o ≡ Nobody → o ≡ none
       is none e = refl

@@ -2,27 +2,24 @@
 use crate::Explored;
 use crate::set;
 use crate::set::Inserted;
-use fra::Edge;
-use fra::Model;
 use fra::Position;
-use fra::State;
-use fra::Task;
-use moves::kinds;
+use fra::Side;
+use index::Range;
 use moves::rounds;
-use moves::rounds::Target;
 use replies::fan;
 use replies::fan::Candidate;
-ghost use Prim.Native.Nat.{_<_};
 ghost use mathlib.Core.Path.{_≡_};
-ghost use lib.ListN.{getD};
-ghost use Rattle.fra.specs.Model.{noState};
+ghost use mathlib.Core.Bool.{true};
 ghost use Rattle.fra.specs.Rules.{bisimulation};
-ghost use Rattle.replies.specs.Fan.{candidateFor, candidateAt, fanOf};
+ghost use Rattle.fra.specs.Position.{legal};
+ghost use Rattle.fra.specs.declared.Task.{Task};
+ghost use Rattle.replies.specs.Fan.{candidateAt};
+ghost use Rattle.index.specs.Index.{Indexed};
 ghost use Rattle.table_laws.specs.Keys.{keyOf};
 ghost use Rattle.explore_laws.specs.Stored.{Stored};
-ghost use Rattle.explore_laws.specs.Growth.{Before};
-ghost use Rattle.explore_laws.specs.Pairs.{PairKey, FanKey};
-ghost use Rattle.explore_laws.specs.Exploring.{Expandable, SuccessorKey};
+ghost use Rattle.explore_laws.specs.Growth.{Among};
+ghost use Rattle.explore_laws.specs.Pairs.{PairKey};
+ghost use Rattle.explore_laws.specs.Exploring.{SuccessorKey};
 ghost use Rattle.explore.specs.Answers.{Visited};
 
 // Inserts a position.
@@ -58,21 +55,22 @@ fn visit_pair(
     Explored::Count(n)
 }
 
-// Inserts the positions that a left edge leads to with the first `count` right edges of a fan.
+// Inserts the positions that a left edge leads to with the right edges of a fan.
 fn visit_fan(
     table: &mut [u8],
     n: usize,
     p: Position,
     left: Candidate,
-    right: &[u8; 320],
-    count: usize,
+    right: &[u8; fan::SIZE],
+    fan: Range,
 ) -> Explored
     requires { ⌜ Stored n (now table) ⌝ }
-    ensures { λ r. ⌜ Visited (Before count (λ i. PairKey p left (candidateAt (now (right .entry)) i))) n (now (table .entry)) r (now (table .exit)) ⌝ }
+    ensures { λ r. ⌜ Visited (Among (fan .first) (fan .end) (λ i. PairKey p left (candidateAt (now (right .entry)) i))) n (now (table .entry)) r (now (table .exit)) ⌝ }
 {
+    let end = fan.end;
     let mut m = n;
-    let mut i: usize = 0;
-    while i < count {
+    let mut i = fan.first;
+    while i < end {
         let Explored::Count(more) = visit_pair(table, m, p, left, fan::candidate_at(right, i))
         else {
             return Explored::TooMany;
@@ -83,68 +81,30 @@ fn visit_fan(
     Explored::Count(m)
 }
 
-// Inserts the positions that a left edge leads to with the right edges of its tag.
-fn visit_edge(
+// Inserts the successors of a position. The task is given by its index: left edges, right edges, states.
+pub fn visit_successors(
     table: &mut [u8],
     n: usize,
+    left: &[u8; fan::SIZE],
+    right: &[u8; fan::SIZE],
+    states: &[u8; index::STATES],
     p: Position,
-    left: Candidate,
-    right: Model,
-    tag: u8,
 ) -> Explored
     requires { ⌜ Stored n (now table) ⌝ }
-    ensures { λ r. ⌜ Visited (FanKey right p left (fanOf right (p .right) tag)) n (now (table .entry)) r (now (table .exit)) ⌝ }
+    ensures { λ r. ⌜ ((t : Task) → Indexed t (now (left .entry)) (now (right .entry)) (now (states .entry)) → legal 6 t p ≡ true → Visited (SuccessorKey bisimulation t p) n (now (table .entry)) r (now (table .exit))) ⌝ }
 {
-    let mut edges = [0u8; 320];
-    let count = fan::fan(right, p.right, tag, &mut edges);
-    visit_fan(table, n, p, left, &edges, count)
-}
-
-// Edge number k of a model with these states.
-fn candidate(states: [State; 16], k: u8, e: Edge) -> Candidate
-    requires { ⌜ e .to < 16 ⌝ }
-    ensures { λ r. ⌜ r ≡ candidateFor k e (getD states (e .to) noState .set) ⌝ }
-{
-    let kind = e.kind;
-    let to = e.to;
-    let target = Target {
-        register: kinds::register_of(kind),
-        state: to,
-        set: states[to as usize].set,
-    };
-    Candidate {
-        edge: k,
-        kind,
-        target,
-    }
-}
-
-// Inserts the successors of a position.
-pub fn visit_successors(table: &mut [u8], n: usize, t: Task, p: Position) -> Explored
-    requires { ⌜ Expandable t p n (now table) ⌝ }
-    ensures { λ r. ⌜ Visited (SuccessorKey bisimulation t p) n (now (table .entry)) r (now (table .exit)) ⌝ }
-{
-    let left = t.left;
-    let right = t.right;
-    let states = left.states;
-    let count = left.edge_count;
+    let edges = index::edges_of(states, Side::Left, p.left);
+    let end = edges.end;
     let mut m = n;
-    let mut k: u8 = 0;
-    while k < count {
-        let e = left.edges[k as usize];
-        if e.from == p.left {
-            let Explored::Count(more) = visit_edge(
-                table,
-                m,
-                p,
-                candidate(states, k, e),
-                right,
-                e.tag,
-            ) else {
-                return Explored::TooMany;
-            };
-            m = more;
-        }
+    let mut k = edges.first;
+    while k < end {
+        let tag = index::tag_of(states, Side::Left, k);
+        let fan = index::fan_of(states, Side::Right, p.right, tag);
+        let Explored::Count(more) = visit_fan(table, m, p, fan::candidate_at(left, k), right, fan)
+        else {
+            return Explored::TooMany;
+        };
+        m = more;
         k += 1;
     }
     Explored::Count(m)

@@ -21,11 +21,21 @@ fn expand_all(table: &mut [u8], n: usize, t: Task) -> Explored
     requires { ⌜ Explorable t × Exploring bisimulation t (length (now table)) n 0 (now table) ⌝ }
     ensures { λ r. ⌜ Explores t (now (table .entry)) r (now (table .exit)) ⌝ }
 {
+    let left = index::edges(t.left);
+    let right = index::edges(t.right);
+    let states = index::states(t);
     let mut found = n;
     let mut done: usize = 0;
     while done < found {
         let p = table::position(table::word_at(table, done * table::ENTRY));
-        let Explored::Count(more) = expand::visit_successors(table, found, t, p) else {
+        let Explored::Count(more) = expand::visit_successors(
+            table,
+            found,
+            &left,
+            &right,
+            &states,
+            p,
+        ) else {
             return Explored::TooMany;
         };
         found = more;

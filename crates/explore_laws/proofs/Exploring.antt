@@ -25,7 +25,7 @@ use Rattle.table_laws.proofs.Keys.{position-of-key, key-order, legal-small}
 use Rattle.table_laws.proofs.Tables.{keys-length}
 use Rattle.explore_laws.specs.Stored.{Holds}
 use Rattle.explore_laws.specs.Growth.{Completes, Overflows}
-use Rattle.explore_laws.specs.Exploring.{ReachedKey, SuccessorKey, Explorable, Expandable, Exploring}
+use Rattle.explore_laws.specs.Exploring.{ReachedKey, SuccessorKey, Explorable, Exploring}
 use Rattle.explore_laws.proofs.Explored.{names-unique, explored-few, explored-members, explored-length}
 use Rattle.explore_laws.proofs.Stored.{holds-member, member-holds, keys-unique}
 use Rattle.explore_laws.proofs.Growth.{grown-all, holds-kept}
@@ -52,11 +52,10 @@ module _ {t : Task} (task : Explorable t) (g : Rules) where
   reached-from : {k : ℕ} → ReachedKey g t k → Reached g t (positionFrom k)
   reached-from w = subst (Reached g t) (sym (ap positionFrom (w .2) ∙ from-key (w .0) (w .1))) (w .1)
 
-  -- a position that is found can be expanded
-  pub exploring-expandable : {size n done : ℕ} {table : List ℕ} → Exploring g t size n done table → done < n
-      → Expandable t (positionFrom (keyAt table done)) n table
-  exploring-expandable e l =
-      record { task = task; is-legal = is-legal _ (reached-from (e .reached _ l)); stored = e .stored }
+  -- a position that is found is legal
+  pub exploring-legal : {size n done : ℕ} {table : List ℕ} → Exploring g t size n done table → done < n
+      → legal 6 t (positionFrom (keyAt table done)) ≡ true
+  exploring-legal e l = is-legal _ (reached-from (e .reached _ l))
 
   start-reached : (k : ℕ) → k ≡ keyOf (t .start) → ReachedKey g t k
   start-reached k e = (t .start, begin, e)

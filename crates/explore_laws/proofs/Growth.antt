@@ -7,7 +7,7 @@ use native.Mathlib.Decide.{ℕ-discrete, decLt}
 use Rattle.outcome.specs.Compare.{capacity}
 use Rattle.table_laws.specs.Table.{keyAt}
 use Rattle.explore_laws.specs.Stored.{Stored, Holds}
-use Rattle.explore_laws.specs.Growth.{Grows, Completes, Overflows, Before, Passed}
+use Rattle.explore_laws.specs.Growth.{Grows, Completes, Overflows, Among, Passed}
 
 -- ── Step by step ──
 
@@ -74,55 +74,57 @@ completes-none s none = record { grows = grows-none s; complete = λ k w. absurd
 
 -- ── Place by place ──
 
-module _ (e : ℕ) (Wanted : ℕ → ℕ → Type 0) where
-  before-more : (i j : ℕ) → i ≤ j → (k : ℕ) → Before i Wanted k → Before j Wanted k
-  before-more i j l k (h, b, w) = (h, omega arith, w)
+module _ (first end : ℕ) (Wanted : ℕ → ℕ → Type 0) where
+  among-more : (i j : ℕ) → i ≤ j → (k : ℕ) → Among first i Wanted k → Among first j Wanted k
+  among-more i j l k (h, a, b, w) = (h, a, omega arith, w)
 
-  before-last : (i j : ℕ) → i < j → (k : ℕ) → Wanted i k → Before j Wanted k
-  before-last i j l k w = (i, l, w)
+  among-last : (i j : ℕ) → first ≤ i → i < j → (k : ℕ) → Wanted i k → Among first j Wanted k
+  among-last i j a l k w = (i, a, l, w)
 
-  pub passed-none : {n : ℕ} {table : List ℕ} → Stored n table → Passed e Wanted 0 n table n table
-  passed-none s = record { within = omega arith; visited = completes-none s (λ k w. omega (arith, w .1)) }
+  pub passed-none : {n : ℕ} {table : List ℕ} → Stored n table → Passed first end Wanted first n table n table
+  passed-none s =
+      record {
+        from = omega arith;
+        within = λ h. absurd (omega arith);
+        visited = completes-none s (λ k w. omega (arith, w .1, w .2));
+      }
 
-  pub passed-next : {n m l i : ℕ} {a b c : List ℕ} → i < e → Passed e Wanted i n a m b → Completes (Wanted i) m b l c
-      → Passed e Wanted (i + 1) n a l c
+  pub passed-next : {n m l i : ℕ} {a b c : List ℕ} → i < end → Passed first end Wanted i n a m b → Completes (Wanted i) m b l c
+      → Passed first end Wanted (i + 1) n a l c
   passed-next {l = l} {i = i} {c = c} h f g =
       record {
-        within = omega arith;
+        from = omega (arith, f .from);
+        within = λ x. omega arith;
         visited =
             record {
               grows =
-                  grows-then (before-more i (i + 1) (omega arith)) (before-last i (i + 1) (omega arith)) (f .visited .grows)
+                  grows-then (among-more i (i + 1) (omega arith)) (among-last i (i + 1) (f .from) (omega arith))
+                  (f .visited .grows)
                   (g .grows);
               complete = λ k w. step k w (ℕ-discrete (w .0) i);
             };
       }
     where
-      step : (k : ℕ) (w : Before (i + 1) Wanted k) → Dec (w .0 ≡ i) → Holds l c k
-      step k w (yes d) = g .complete k (subst (λ j. Wanted j k) d (w .2))
-      step k w (no d) = holds-kept (g .grows) (f .visited .complete k (w .0, omega (arith, w .1), w .2))
-
-  -- nothing is wanted at this place
-  pub passed-skip : {n m i : ℕ} {a b : List ℕ} → i < e → Passed e Wanted i n a m b → ((k : ℕ) → Wanted i k → ⊥)
-      → Passed e Wanted (i + 1) n a m b
-  passed-skip h f none = passed-next h f (completes-none (f .visited .grows .stored) none)
+      step : (k : ℕ) (w : Among first (i + 1) Wanted k) → Dec (w .0 ≡ i) → Holds l c k
+      step k w (yes d) = g .complete k (subst (λ j. Wanted j k) d (w .3))
+      step k w (no d) = holds-kept (g .grows) (f .visited .complete k (w .0, w .1, omega (arith, w .2), w .3))
 
   -- a key wanted at this place has no room
-  pub passed-overflows : {n m i : ℕ} {a b c : List ℕ} → i < e → Passed e Wanted i n a m b → Overflows (Wanted i) m b c
-      → Overflows (Before e Wanted) n a c
+  pub passed-overflows : {n m i : ℕ} {a b c : List ℕ} → i < end → Passed first end Wanted i n a m b → Overflows (Wanted i) m b c
+      → Overflows (Among first end Wanted) n a c
   unfolding capacity
   passed-overflows {m = m} {i} {a} {b} {c} h f o =
       let same : capacity b ≡ capacity a = ap (λ n. n / 12) (f .visited .grows .long) in
       record {
         grows =
-            grows-then (before-more i e (omega arith)) (before-last i e h) (f .visited .grows)
+            grows-then (among-more i end (omega arith)) (among-last i end (f .from) h) (f .visited .grows)
             (subst (λ x. Grows (Wanted i) m b x c) same (o .grows));
         key = o .key;
-        wanted = before-last i e h (o .key) (o .wanted);
+        wanted = among-last i end (f .from) h (o .key) (o .wanted);
         missing = subst (λ x. Holds x c (o .key) → ⊥) same (o .missing);
       }
 
-  pub passed-all : {n m i : ℕ} {a b : List ℕ} → e ≤ i → Passed e Wanted i n a m b → Completes (Before e Wanted) n a m b
-  passed-all {n} {m} {i} {a} {b} h f =
-      let d : i ≡ e = omega (arith, f .within) in
-      subst (λ j. Completes (Before j Wanted) n a m b) d (f .visited)
+  pub passed-all : {n m i : ℕ} {a b : List ℕ} → end ≤ i → Passed first end Wanted i n a m b
+      → Completes (Among first end Wanted) n a m b
+  passed-all {i = i} h f =
+      completes-as (λ k (j, a, b, w). (j, a, omega (arith, f .within (omega arith)), w)) (among-more end i h) (f .visited)

@@ -2,12 +2,10 @@
 -- still to be found.
 use Prim.Native.Nat.{ℕ, _≤_, _<_}
 use mathlib.Core.Path.{_≡_}
-use mathlib.Core.Bool.{true}
 use mathlib.Core.List.{List}
 use lib.ListN.{length}
 use Rattle.fra.specs.Lists.{_∈_}
 use Rattle.fra.specs.Rules.{Rules}
-use Rattle.fra.specs.Position.{legal}
 use Rattle.fra.specs.Valid.{Valid}
 use Rattle.fra.specs.Reach.{successors, Reached}
 use Rattle.fra.specs.declared.Position.{Position}
@@ -24,18 +22,11 @@ ReachedKey g t k = (p : Position) × Reached g t p × (k ≡ keyOf p)
 abbrev pub SuccessorKey : Rules → Task → Position → ℕ → Type 0
 SuccessorKey g t p k = (q : Position) × (q ∈ successors g t p) × (k ≡ keyOf q)
 
--- a valid task, with 01's limits on its counts
+-- a valid task, with 01's limits on its counts of states
 pub record Explorable (t : Task) : Type 0 where
   pub valid : Valid 6 t
   pub left-states : t .left .«state_count» ≤ 16
   pub right-states : t .right .«state_count» ≤ 16
-  pub left-edges : t .left .«edge_count» ≤ 64
-
--- its position p can be expanded
-pub record Expandable (t : Task) (p : Position) (n : ℕ) (table : List ℕ) : Type 0 where
-  pub task : Explorable t
-  pub is-legal : legal 6 t p ≡ true
-  pub stored : Stored n table
 
 -- n positions are found in a table of `size` bytes, and the first `done` of them are expanded: all their successors are found
 pub record Exploring (g : Rules) (t : Task) (size n done : ℕ) (table : List ℕ) : Type 0 where

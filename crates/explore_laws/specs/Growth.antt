@@ -27,11 +27,12 @@ pub record Overflows (Wanted : ℕ → Type 0) (n : ℕ) (old : List ℕ) (new :
   pub wanted : Wanted key
   pub missing : Holds (capacity old) new key → ⊥
 
--- wanted at some place below n
-abbrev pub Before : ℕ → (ℕ → ℕ → Type 0) → ℕ → Type 0
-Before n Wanted k = (i : ℕ) × (i < n) × Wanted i k
+-- wanted at some place from `first` on, below `end`
+abbrev pub Among : ℕ → ℕ → (ℕ → ℕ → Type 0) → ℕ → Type 0
+Among first end Wanted k = (i : ℕ) × (first ≤ i) × (i < end) × Wanted i k
 
--- the first i of e places are passed: all keys wanted there are held
-pub record Passed (e : ℕ) (Wanted : ℕ → ℕ → Type 0) (i n : ℕ) (old : List ℕ) (m : ℕ) (new : List ℕ) : Type 0 where
-  pub within : i ≤ e
-  pub visited : Completes (Before i Wanted) n old m new
+-- of the places from `first` on, below `end`, those below i are passed: all keys wanted there are held
+pub record Passed (first end : ℕ) (Wanted : ℕ → ℕ → Type 0) (i n : ℕ) (old : List ℕ) (m : ℕ) (new : List ℕ) : Type 0 where
+  pub from : first ≤ i
+  pub within : first < i → i ≤ end
+  pub visited : Completes (Among first i Wanted) n old m new

@@ -8,8 +8,8 @@ use mathlib.Core.Option.{Option, none, some}
 use native.Mathlib.Nat.{le-refl}
 use native.Mathlib.Numerals.{add-one}
 use native.Mathlib.Omega.{arith}
-use lib.ListN.{length, getD, drop, length-append, drop-of-length-le}
-use lib.Seq.{drop-at, drop-cons}
+use lib.ListN.{length, getD, drop, drop-of-length-le}
+use lib.Seq.{drop-at, drop-cons, length-sets}
 use lib.Dec.{eqb}
 use borrow.Author.Tests.{ne-eqb}
 use Rattle.fra.specs.Lists.{_∈_, any}
@@ -28,7 +28,7 @@ use Rattle.fra_laws.proofs.Lengths.{flatMap-length}
 use Rattle.fra_laws.proofs.Legal.{legal-facts}
 use Rattle.fra_laws.proofs.Reached.{reached-rising, reached-after, reached-legal}
 use Rattle.fra_laws.proofs.Rounds.{Closed, rank-some}
-use Rattle.outcome.specs.Bytes.{allOnes}
+use Rattle.outcome.specs.Bytes.{word, allOnes}
 use Rattle.outcome.specs.Certificate.{roundsOrNever, entry, entries, chosen}
 use Rattle.table_laws.specs.Table.{row, positionAt}
 use Rattle.table_laws.proofs.Records.{at-member, member-place}
@@ -42,7 +42,8 @@ use Rattle.rank_laws.specs.Rows.{rows, roundsAt}
 use Rattle.rank_laws.specs.Winner.{winner, isFound}
 use Rattle.rank_laws.specs.Pairs.{hasPair, lostPairs, sources, Covers}
 use Rattle.rank_laws.proofs.Levels.{level-judges, level-step, level-zero, level-final, ranked-step, ranked-bound}
-use Rattle.rank_laws.proofs.Rows.{flatMap-same, partly, partly-room, partly-position, partly-rounds, partly-positions, partly-here, partly-next}
+use Rattle.rank_laws.proofs.Rows.{flatMap-same, partly, partly-none, partly-room, partly-position, partly-rounds, partly-positions, partly-here, partly-next}
+use Rattle.rank_laws.proofs.Positions.{positions-kept}
 use Rattle.rank_laws.proofs.Winners.{chosen-winner, winner-same}
 use Rattle.rank_laws.proofs.Pairs.{covers-next}
 use Rattle.wins.specs.declared.Win.{Win}
@@ -78,6 +79,15 @@ module _ (table : List ℕ) (n : ℕ) (t : Task) (k : ℕ) (worth : List ℕ) (i
   unfolding gains
   gains-by h d e =
       rw (rw here at e, d, h, here) (sym (found-is (winner bisimulation t (lostBefore table n k) (positionAt table i))))
+
+-- marks leave the table searchable
+pub marked-searchable : (test : Bool) {n : ℕ} {table : List ℕ} (i k : ℕ) → Searchable n table → Searchable n (markedIf test table i k)
+marked-searchable true {n} {table} i k s =
+    record {
+      room = omega (arith, s .room, length-sets table (i * 12 + 8) (word k));
+      rising = rw (positions-kept table i k n) (s .rising);
+    }
+marked-searchable false i k s = s
 
 -- ── Looking up in a rising list ──
 
@@ -232,11 +242,14 @@ module _ {t : Task} (valid : Valid 6 t) where
     pub pass-rest : drop (n * 12) table ≡ rest
     pass-rest = rw e (drop-at (rows f reachable) rest (n * 12) rows-length)
 
-    pub pass-room : n * 12 ≤ length table
-    pass-room = rw e (omega (arith, length-append (rows f reachable) rest, rows-length))
-
     pub pass-begins : Begins t f n table
     pass-begins = record { counted = counted; begins = rw pass-rest e }
+
+  -- it can be searched
+  pub begins-searchable : {f : Position → ℕ} {n : ℕ} {table : List ℕ} → Begins t f n table → Searchable n table
+  begins-searchable {f} {n} {table} b =
+      rw (b .counted, b .begins, ← partly-none f f reachable (drop (n * 12) table))
+      (partly-searchable valid (drop (n * 12) table) f f 0)
 
   -- what a pass from 1 on has marked tells where the next one has to look
   pub pass-covers : (k n : ℕ) (rest : List ℕ) {table : List ℕ} → 1 ≤ k → k + 1 < allOnes → n ≡ length reachable

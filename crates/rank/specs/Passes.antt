@@ -1,5 +1,5 @@
 -- What passes over the table do to it.
-use Prim.Native.Nat.{ℕ, _+_, _*_}
+use Prim.Native.Nat.{ℕ, _+_, _*_, _-_, _≤_, _<_}
 use mathlib.Core.Path.{_≡_}
 use mathlib.Core.Bool.{Bool, cond, _&&_}
 use mathlib.Core.List.{List, _++_}
@@ -11,15 +11,24 @@ use Rattle.fra.specs.declared.Position.{Position}
 use Rattle.fra.specs.declared.Task.{Task}
 use Rattle.outcome.specs.Bytes.{allOnes}
 use Rattle.table_laws.specs.Table.{putWord, positionAt}
+use Rattle.rank_laws.specs.Levels.{level}
 use Rattle.rank_laws.specs.Rows.{rows, roundsAt}
 use Rattle.rank_laws.specs.Winner.{winner, isFound}
-use Rattle.rank_laws.specs.Pairs.{hasPair}
+use Rattle.rank_laws.specs.Pairs.{hasPair, Covers}
 use Rattle.wins.specs.Judgement.{lostBefore}
 
 -- the table begins with the n positions reached, with these rounds
 pub record Begins (t : Task) (rounds : Position → ℕ) (n : ℕ) (table : List ℕ) : Type 0 where
   pub counted : n ≡ length (reached bisimulation t)
   pub begins : table ≡ rows rounds (reached bisimulation t) ++ drop (n * 12) table
+
+-- pass k can be made: it is one from 1 on that four bytes can count, the pass before has left its levels, and `worth` has the states
+-- of each position that pass k marks
+pub record Ready (t : Task) (k n : ℕ) (table worth : List ℕ) : Type 0 where
+  pub least : 1 ≤ k
+  pub small : k < allOnes
+  pub begins : Begins t (level bisimulation t (k - 1)) n table
+  pub covers : Covers bisimulation t k worth
 
 -- the states of entry i are in the set of those worth a look, it has no rounds yet, and an attack wins by positions that the table
 -- has with fewer rounds than k

@@ -1,8 +1,10 @@
 // Ranks by passes over the sorted table in its final layout: after pass k an entry's rounds are exact if at most k, else
 // FF FF FF FF. A reply counts as lost in pass k if its rounds are fewer than k, so marks of the same pass do not count. From
-// pass 2 on a pass looks only at positions whose states lead to the states of one that the pass before has marked.
-use attacks::lost_at_once;
+// pass 2 on a pass looks only at positions whose states lead to the states of one that the pass before has marked. The task is
+// read by its index: left edges, right edges, states.
 use fra::Task;
+use index::lost_at_once;
+use replies::fan;
 use table::ENTRY;
 use table::NEVER;
 use table::ROUNDS;
@@ -11,7 +13,7 @@ use table::put_word;
 use table::word_at;
 use wins::Win;
 use wins::first_win;
-ghost use Prim.Native.Nat.{_+_, _*_, _-_, _≤_, _<_};
+ghost use Prim.Native.Nat.{_+_, _*_, _≤_, _<_};
 ghost use mathlib.Core.Path.{_≡_};
 ghost use mathlib.Core.List.{_++_};
 ghost use lib.ListN.{length, drop};
@@ -22,43 +24,50 @@ ghost use Rattle.fra.specs.Reach.{reached};
 ghost use Rattle.fra.specs.Valid.{Valid};
 ghost use Rattle.outcome.specs.Bytes.{allOnes};
 ghost use Rattle.outcome.specs.Certificate.{entries};
+ghost use Rattle.index.specs.Index.{StatesIndexed, Indexed, ForStates, ForTask};
 ghost use Rattle.table_laws.specs.Table.{positionAt};
 ghost use Rattle.rank_laws.specs.Levels.{level, ranked};
 ghost use Rattle.rank_laws.specs.Rows.{rows};
-ghost use Rattle.rank_laws.specs.Pairs.{Covers};
 ghost use Rattle.wins.specs.Judgement.{Searchable};
-ghost use Rattle.rank.specs.Passes.{Begins, gains, markedIf};
+ghost use Rattle.rank.specs.Passes.{Begins, Ready, gains, markedIf};
 
 // Pass 0 at entry i.
-fn mark_at_once(table: &mut [u8], t: Task, i: usize)
+fn mark_at_once(table: &mut [u8], states: &[u8; index::STATES], i: usize)
     requires { ⌜ i * 12 + 12 ≤ length (now table) ⌝ }
-    ensures { λ _. ⌜ now (table .exit) ≡ markedIf (lostAtOnce bisimulation t (positionAt (now (table .entry)) i)) (now (table .entry)) i 0 ⌝ }
+    ensures { λ _. ⌜ ForStates (now (states .entry)) (now (table .exit)) (λ t. markedIf (lostAtOnce bisimulation t (positionAt (now (table .entry)) i)) (now (table .entry)) i 0) ⌝ }
 {
-    if lost_at_once(t, position_at(table, i)) {
+    if lost_at_once(states, position_at(table, i)) {
         put_word(table, i * ENTRY + ROUNDS, 0);
     }
 }
 
 // Pass 0: rounds 0 where the end marks differ.
-fn pass_zero(table: &mut [u8], n: usize, t: Task)
-    requires { ⌜ Begins t (λ p. allOnes) n (now table) ⌝ }
-    requires { ⌜ Valid 6 t ⌝ }
-    ensures { λ _. ⌜ now (table .exit) ≡ rows (level bisimulation t 0) (reached bisimulation t) ++ drop (n * 12) (now (table .entry)) ⌝ }
+fn pass_zero(table: &mut [u8], n: usize, states: &[u8; index::STATES])
+    requires { ⌜ n * 12 ≤ length (now table) ⌝ }
+    ensures { λ _. ⌜ ((t : Task) → StatesIndexed t (now (states .entry)) → Begins t (λ p. allOnes) n (now (table .entry)) → now (table .exit) ≡ rows (level bisimulation t 0) (reached bisimulation t) ++ drop (n * 12) (now (table .entry))) ⌝ }
 {
     let mut i = 0;
     while i < n {
-        mark_at_once(table, t, i);
+        mark_at_once(table, states, i);
         i += 1;
     }
 }
 
 // Pass k at entry i, if its pair of states is worth a look; the answer is whether the entry was marked.
-fn mark(table: &mut [u8], n: usize, t: Task, k: u32, worth: &[u8; pairs::SIZE], i: usize) -> bool
+fn mark(
+    table: &mut [u8],
+    n: usize,
+    left: &[u8; fan::SIZE],
+    right: &[u8; fan::SIZE],
+    states: &[u8; index::STATES],
+    k: u32,
+    worth: &[u8; pairs::SIZE],
+    i: usize,
+) -> bool
     requires { ⌜ Searchable n (now table) ⌝ }
-    requires { ⌜ Valid 6 t ⌝ }
     requires { ⌜ i < n ⌝ }
-    ensures { λ r. ⌜ r ≡ gains (now (table .entry)) n t k (now (worth .entry)) i ⌝ }
-    ensures { λ r. ⌜ now (table .exit) ≡ markedIf (gains (now (table .entry)) n t k (now (worth .entry)) i) (now (table .entry)) i k ⌝ }
+    ensures { λ r. ⌜ ForTask (now (left .entry)) (now (right .entry)) (now (states .entry)) r (λ t. gains (now (table .entry)) n t k (now (worth .entry)) i) ⌝ }
+    ensures { λ r. ⌜ now (table .exit) ≡ markedIf r (now (table .entry)) i k ⌝ }
 {
     let p = position_at(table, i);
     if !pairs::has(worth, p.left, p.right) {
@@ -67,7 +76,7 @@ fn mark(table: &mut [u8], n: usize, t: Task, k: u32, worth: &[u8; pairs::SIZE], 
     if word_at(table, i * ENTRY + ROUNDS) != NEVER {
         return false;
     }
-    let win = first_win(table, n, t, p, k);
+    let win = first_win(table, n, left, right, states, p, k);
     let Win::By(_) = win else {
         return false;
     };
@@ -76,17 +85,22 @@ fn mark(table: &mut [u8], n: usize, t: Task, k: u32, worth: &[u8; pairs::SIZE], 
 }
 
 // Pass k: rounds k where an attack wins by positions of fewer rounds; the answer is whether an entry was marked.
-fn pass(table: &mut [u8], n: usize, t: Task, k: u32, worth: &[u8; pairs::SIZE]) -> bool
-    requires { ⌜ (1 ≤ k) × (k < allOnes) × Begins t (level bisimulation t (k - 1)) n (now table) ⌝ }
-    requires { ⌜ Valid 6 t ⌝ }
-    requires { ⌜ Covers bisimulation t k (now worth) ⌝ }
-    ensures { λ r. ⌜ r ≡ any (ranked bisimulation t k) (reached bisimulation t) ⌝ }
-    ensures { λ r. ⌜ now (table .exit) ≡ rows (level bisimulation t k) (reached bisimulation t) ++ drop (n * 12) (now (table .entry)) ⌝ }
+fn pass(
+    table: &mut [u8],
+    n: usize,
+    left: &[u8; fan::SIZE],
+    right: &[u8; fan::SIZE],
+    states: &[u8; index::STATES],
+    k: u32,
+    worth: &[u8; pairs::SIZE],
+) -> bool
+    requires { ⌜ Searchable n (now table) ⌝ }
+    ensures { λ r. ⌜ ((t : Task) → Indexed t (now (left .entry)) (now (right .entry)) (now (states .entry)) → Ready t k n (now (table .entry)) (now (worth .entry)) → (r ≡ any (ranked bisimulation t k) (reached bisimulation t)) × (now (table .exit) ≡ rows (level bisimulation t k) (reached bisimulation t) ++ drop (n * 12) (now (table .entry)))) ⌝ }
 {
     let mut marked = false;
     let mut i = 0;
     while i < n {
-        if mark(table, n, t, k, worth, i) {
+        if mark(table, n, left, right, states, k, worth, i) {
             marked = true;
         }
         i += 1;
@@ -100,11 +114,14 @@ pub fn rank(table: &mut [u8], n: usize, t: Task)
     requires { ⌜ Valid 6 t ⌝ }
     ensures { λ _. ⌜ now (table .exit) ≡ entries bisimulation t ++ drop (n * 12) (now (table .entry)) ⌝ }
 {
-    pass_zero(table, n, t);
+    let left = index::edges(t.left);
+    let right = index::edges(t.right);
+    let states = index::states(t);
+    pass_zero(table, n, &states);
     // An attack without a reply wins in pass 1 whatever pass 0 has marked.
     let mut worth = [1u8; pairs::SIZE];
     let mut k: u32 = 1;
-    while pass(table, n, t, k, &worth) {
+    while pass(table, n, &left, &right, &states, k, &worth) {
         let lost = pairs::lost_pairs(table, n, k);
         worth = pairs::sources(t, &lost);
         k += 1;

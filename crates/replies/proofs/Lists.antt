@@ -12,7 +12,8 @@ use Rattle.fra.specs.Lists.{keep, count}
 use Rattle.fra_laws.proofs.Lists.{keep-passes, keep-fails}
 use Rattle.moves.proofs.Lists.{keep-append}
 
-count-more : (i n : ℕ) → count i (suc n) ≡ count i n ++ ((i + n) ∷ [])
+-- one number more
+pub count-more : (i n : ℕ) → count i (suc n) ≡ count i n ++ ((i + n) ∷ [])
 unfolding count
 count-more i zero = rw (add-zero i)
 count-more i (suc n) =

@@ -26,7 +26,7 @@ pub struct Candidate {
 }
 
 // Edge number k, whose to state has this register set.
-fn candidate_for(k: u8, e: Edge, set: u8) -> Candidate
+pub fn candidate_for(k: u8, e: Edge, set: u8) -> Candidate
     ensures { λ r. ⌜ r ≡ candidateFor k e set ⌝ }
 {
     let kind = e.kind;
@@ -42,7 +42,7 @@ fn candidate_for(k: u8, e: Edge, set: u8) -> Candidate
     }
 }
 
-fn set_in(states: [State; 16], q: u8) -> u8
+pub fn set_in(states: [State; 16], q: u8) -> u8
     ensures { λ r. ⌜ r ≡ getD states q noState .set ⌝ }
 {
     if q < Model::STATES {
@@ -53,7 +53,7 @@ fn set_in(states: [State; 16], q: u8) -> u8
 }
 
 // Writes candidate number n.
-fn put(out: &mut [u8; SIZE], n: usize, c: Candidate)
+pub fn put(out: &mut [u8; SIZE], n: usize, c: Candidate)
     requires { ⌜ n < 64 ⌝ }
     ensures { λ _. ⌜ now (out .exit) ≡ sets (now (out .entry)) (5 * n) (candidateBytes c) ⌝ }
 {
@@ -68,7 +68,7 @@ fn put(out: &mut [u8; SIZE], n: usize, c: Candidate)
 }
 
 // How many edges a model has that counts this many: no more than there are places.
-fn places(count: u8) -> u8
+pub fn places(count: u8) -> u8
     ensures { λ r. ⌜ r ≡ min count 64 ⌝ }
 {
     if count < Model::EDGES {

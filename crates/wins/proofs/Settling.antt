@@ -1,17 +1,16 @@
 -- The candidates of a fan that answer a challenge, found one after another; and what it says of an attack that all of them lead
 -- to lost positions. Assumes nothing.
-use Prim.Native.Nat.{ℕ, _-_, _≤_, _<_}
+use Prim.Native.Nat.{ℕ, zero, suc, _+_, _-_, _≤_, _<_}
 use mathlib.Core.Path.{_≡_, refl, sym, _∙_, ap}
 use mathlib.Core.Bool.{Bool, true, _&&_}
 use mathlib.Core.List.{List, [], _∷_, map}
 use mathlib.Core.Option.{Option, none, some}
+use native.Mathlib.Nat.{zero-add, add-zero, sub-zero}
 use native.Mathlib.Omega.{arith}
-use lib.ListN.{length, getD, drop, length-map, List·getD-map}
-use lib.Seq.{ext-getD}
+use lib.ListN.{length, getD, drop}
 use Rattle.fra.specs.Lists.{all, count, least}
 use Rattle.fra.specs.Model.{noEdge}
 use Rattle.fra.specs.Game.{replies}
-use Rattle.fra.specs.declared.Model.{Model}
 use Rattle.fra.specs.declared.Position.{Position}
 use Rattle.fra.specs.declared.Task.{Task}
 use Rattle.fra.specs.declared.Attack.{Attack}
@@ -23,12 +22,21 @@ use Rattle.replies.specs.declared.fan.Candidate.{Candidate}
 use Rattle.replies.specs.declared.search.Challenge.{Challenge}
 use Rattle.replies.specs.declared.search.Reply.the-variants.{To, Missing}
 use Rattle.replies.specs.declared.search.Found.{Found}
-use Rattle.replies.proofs.Fans.{Holds}
 use Rattle.replies.proofs.Replies.{answersFrom, replier, attackFan, all-replies, after-is}
 use Rattle.rank_laws.specs.Winner.{winsBy}
 use Rattle.rank_laws.proofs.Winners.{all-same}
 use Rattle.table_laws.proofs.Tables.{places-length, places-at}
 use Rattle.wins.specs.Wins.{candidates, answering, settles}
+
+-- what a function gives at the places of a count, from one of them on
+drop-places : {A : Type 0} (f : ℕ → A) (k n i : ℕ) → drop i (map f (count k n)) ≡ map f (count (k + i) (n - i))
+unfolding count
+drop-places f k n zero = simp (add-zero, sub-zero)
+drop-places f k zero (suc i) = let e : 0 - suc i ≡ 0 = omega arith in rw e
+drop-places f k (suc n) (suc i) =
+    let e : suc k + i ≡ k + suc i = omega arith in
+    let d : n - i ≡ suc n - suc i = omega arith in
+    drop-places f (suc k) n i ∙ rw (e, d)
 
 module _ (bytes : List ℕ) (n : ℕ) (c : Challenge) where
   abbrev none-there : Candidate
@@ -39,25 +47,26 @@ module _ (bytes : List ℕ) (n : ℕ) (c : Challenge) where
 
   -- the candidates from place i on that answer
   abbrev pub answersAt : ℕ → List Candidate
-  answersAt i = answering c (drop i (candidates bytes n))
+  answersAt i = answering c (candidates bytes i n)
 
-  candidates-length : length (candidates bytes n) ≡ n
-  unfolding candidates
-  candidates-length = places-length (candidateAt bytes) n
+  abbrev whole : List Candidate
+  whole = map (candidateAt bytes) (count 0 n)
 
-  candidates-at : (j : ℕ) → j < n → getD (candidates bytes n) j none-there ≡ candidateAt bytes j
+  from-place : (i : ℕ) → candidates bytes i n ≡ drop i whole
   unfolding candidates
+  from-place i = sym (rw zero-add at (drop-places (candidateAt bytes) 0 n i))
+
+  candidates-at : (j : ℕ) → j < n → getD whole j none-there ≡ candidateAt bytes j
   candidates-at j h = places-at (candidateAt bytes) n j none-there h
 
-  answers-kept : (i : ℕ)
-      → KeptFrom answers (candidates bytes n) none-there i (least (λ j. isAnswer c (candidateAt bytes j .kind)) i (n - i))
+  answers-kept : (i : ℕ) → KeptFrom answers whole none-there i (least (λ j. isAnswer c (candidateAt bytes j .kind)) i (n - i))
   answers-kept i =
       rw (
-        candidates-length,
-        least-same (test answers (candidates bytes n) none-there) (λ j. isAnswer c (candidateAt bytes j .kind)) i (n - i)
+        places-length (candidateAt bytes) n,
+        least-same (test answers whole none-there) (λ j. isAnswer c (candidateAt bytes j .kind)) i (n - i)
             (λ j p q. rw (candidates-at j (omega arith))),
       ) at
-      (kept-from answers (candidates bytes n) none-there i)
+      (kept-from answers whole none-there i)
 
   -- a search that found a reply: the first candidate that answers, where it leads, and those that follow
   pub record NextAnswer (i : ℕ) (f : Found) : Type 0 where
@@ -73,7 +82,7 @@ module _ (bytes : List ℕ) (n : ℕ) (c : Challenge) where
     unfolding replyFrom replyAnswer
     answer-found q r = step place (answers-kept i) e
       where
-        step : (o : Option ℕ) → KeptFrom answers (candidates bytes n) none-there i o → f ≡ replyAnswer bytes n c o → NextAnswer i f
+        step : (o : Option ℕ) → KeptFrom answers whole none-there i o → f ≡ replyAnswer bytes n c o → NextAnswer i f
         step none k d =
             let m : Missing ≡ To q = ap (λ (f : Found). f .reply) (sym d) ∙ r in
             let z : _≡_ {A = ℕ} 0 1 = cc in
@@ -82,7 +91,9 @@ module _ (bytes : List ℕ) (n : ℕ) (c : Challenge) where
             record {
               candidate = candidateAt bytes j;
               position = ap (λ (f : Found). f .position) d;
-              first = rw (ap (λ (f : Found). f .next) d, ← candidates-at j (omega (arith, k .0, candidates-length))) (k .1);
+              first =
+                  rw (ap (λ (f : Found). f .next) d, from-place i, from-place (suc j), ← candidates-at j (omega (arith, k .0, places-length (candidateAt bytes) n)))
+                  (k .1);
             }
 
     -- and no reply: none is left
@@ -90,8 +101,8 @@ module _ (bytes : List ℕ) (n : ℕ) (c : Challenge) where
     unfolding replyFrom replyAnswer
     answer-missing r = step place (answers-kept i) e
       where
-        step : (o : Option ℕ) → KeptFrom answers (candidates bytes n) none-there i o → f ≡ replyAnswer bytes n c o → answersAt i ≡ []
-        step none k d = k
+        step : (o : Option ℕ) → KeptFrom answers whole none-there i o → f ≡ replyAnswer bytes n c o → answersAt i ≡ []
+        step none k d = rw (from-place i) k
         step (some j) k d =
             let m : To (candidateAt bytes j .target .state) ≡ Missing = ap (λ (f : Found). f .reply) (sym d) ∙ r in
             let z : _≡_ {A = ℕ} 0 1 = cc in
@@ -100,7 +111,7 @@ module _ (bytes : List ℕ) (n : ℕ) (c : Challenge) where
   -- what is left to settle from place i on
   module _ (lost : Position → Bool) (i : ℕ) where
     abbrev left : ℕ → Bool
-    left j = settles lost c (drop j (candidates bytes n))
+    left j = settles lost c (candidates bytes j n)
 
     pub settles-none : answersAt i ≡ [] → left i ≡ true
     unfolding settles all
@@ -117,26 +128,17 @@ unfolding all
 all-map f g [] = refl
 all-map f g (x ∷ l) = rw (all-map f g l)
 
-candidates-held : {m : Model} {ks bytes : List ℕ} {n : ℕ} → Holds m ks n bytes → candidates bytes n ≡ map (candidateOf m) ks
-unfolding candidates
-candidates-held {m} {ks} {bytes} {n} h =
-    ext-getD (candidateOf m 0) (map (candidateAt bytes) (count 0 n)) (map (candidateOf m) ks)
-    (places-length (candidateAt bytes) n ∙ h .counted ∙ sym (length-map ks (candidateOf m)))
-    (λ j b.
-    let c : j < n = omega (arith, places-length (candidateAt bytes) n) in
-    places-at (candidateAt bytes) n j (candidateOf m 0) c ∙ h .reads j c ∙ sym (List·getD-map (candidateOf m) ks j 0))
-
--- where the fan is that of the attack's edge, it is what the game says of the attack
-pub settles-wins : (t : Task) (lost : Position → Bool) (p : Position) (a : Attack) (bytes : List ℕ) (n : ℕ)
+-- where the candidates are the fan of the attack's edge, it is what the game says of the attack
+pub settles-wins : (t : Task) (lost : Position → Bool) (p : Position) (a : Attack) (l : List Candidate)
     → replier t p a .«edge_count» ≤ length (replier t p a .edges)
-    → Holds (replier t p a) (attackFan t p a) n bytes
-    → settles lost (challengeOf t p a) (candidates bytes n) ≡ winsBy t lost p a
+    → l ≡ map (candidateOf (replier t p a)) (attackFan t p a)
+    → settles lost (challengeOf t p a) l ≡ winsBy t lost p a
 unfolding settles winsBy
-settles-wins t lost p a bytes n room h =
+settles-wins t lost p a l room h =
     let m = replier t p a in
     let ks = attackFan t p a in
     let c = challengeOf t p a in
-    rw (candidates-held h)
+    rw h
     (rw (keep-map (λ x. isAnswer c (x .kind)) (candidateOf m) ks)
     (all-map _ (candidateOf m) (answersFrom m c ks 0)
     ∙ rw (all-replies t p a room)

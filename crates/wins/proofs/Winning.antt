@@ -1,14 +1,13 @@
 -- The first attack that wins, by sides, edges and cases. Assumes nothing.
-use Prim.Native.Nat.{ℕ, suc, _+_, _-_, _≤_, _<_}
+use Prim.Native.Nat.{ℕ, suc, _+_, _-_, _≤_, _<_, min}
 use mathlib.Core.Path.{_≡_, refl, sym, _∙_}
 use mathlib.Core.Bool.{Bool, true, false}
 use mathlib.Core.List.{List, [], _∷_, map, flatMap}
 use mathlib.Core.Option.{Option, none, some, orElse}
-use native.Mathlib.Nat.{sub-zero}
 use native.Mathlib.Numerals.{add-one}
 use native.Mathlib.Omega.{arith}
-use borrow.Author.Tests.{eq-eqb, ne-eqb}
-use Rattle.fra.specs.Lists.{keep, first, count}
+use lib.ListN.{length}
+use Rattle.fra.specs.Lists.{first, count}
 use Rattle.fra.specs.Model.{edgeOf}
 use Rattle.fra.specs.Rules.{bisimulation, other, modelOf}
 use Rattle.fra.specs.Position.{stateOf, filled}
@@ -23,18 +22,19 @@ use Rattle.fra.specs.declared.IdCase.the-variants.{Held}
 use Rattle.fra.specs.declared.Attack.{Attack}
 use Rattle.fra.specs.Valid.{Valid}
 use Rattle.fra_laws.proofs.Legal.{valid-side}
-use Rattle.fra_laws.proofs.Lists.{keep-passes, keep-fails}
 use Rattle.moves.proofs.IdCases.{casesFrom, NextCase, all-cases}
-use Rattle.moves.proofs.Attacks.{edgeAttacks, attacking, sideAttacks, attacks-by-side}
+use Rattle.moves.proofs.Attacks.{edgeAttacks, sideAttacks, attacks-by-side}
+use Rattle.replies.specs.Fan.{candidateOf}
 use Rattle.replies.specs.Search.{challengeOf, inCase}
 use Rattle.replies.specs.declared.fan.Candidate.{Candidate}
 use Rattle.replies.specs.declared.search.Challenge.{Challenge}
-use Rattle.replies.proofs.Fans.{Holds}
 use Rattle.replies.proofs.Replies.{replier, attackFan}
+use Rattle.index.specs.declared.Range.{Range}
+use Rattle.index.specs.Index.{within, edgesOf}
 use Rattle.rank_laws.specs.Winner.{winsBy, winner}
 use Rattle.rank_laws.proofs.Winners.{first-passes, first-fails, first-append}
 use Rattle.wins.specs.declared.Win.the-variants.{By, Nobody}
-use Rattle.wins.specs.Wins.{winOf, winIn, candidates, settles, caseWinner, edgeWinner, sideWinner}
+use Rattle.wins.specs.Wins.{winOf, winIn, settles, caseWinner, edgeWinner, sideWinner, rangeWinner}
 use Rattle.wins.proofs.Settling.{settles-wins}
 
 -- ── One search after another ──
@@ -94,67 +94,58 @@ abbrev pub held : Side → ℕ → Attack
 held s e = record { side = s; edge = e; case = Held }
 
 module _ (t : Task) (lost : Position → Bool) (p : Position) where
-  -- where the bytes hold the fan of the edge
-  pub edge-by-case : (s : Side) (e : ℕ) (bytes : List ℕ) (n : ℕ) → Valid 6 t
-      → Holds (replier t p (held s e)) (attackFan t p (held s e)) n bytes
+  -- where the candidates are the fan of the edge
+  pub edge-by-case : (s : Side) (e : ℕ) (l : List Candidate) → Valid 6 t
+      → l ≡ map (candidateOf (replier t p (held s e))) (attackFan t p (held s e))
       → winOf (edgeWinner t lost p s e)
       ≡ winIn (challengeOf t p (held s e)) e
-      (caseWinner lost (candidates bytes n) (challengeOf t p (held s e)) (attackEdge t (held s e) .kind) (filled t p (other s)) 0)
+      (caseWinner lost l (challengeOf t p (held s e)) (attackEdge t (held s e) .kind) (filled t p (other s)) 0)
   unfolding edgeWinner caseWinner
-  edge-by-case s e bytes n valid holds =
+  edge-by-case s e l valid h =
       rw (← all-cases t p s (edgeOf (modelOf t s) e .kind))
       (win-in-case (challengeOf t p (held s e)) e (winsBy t lost p)
-      (λ case. settles lost (inCase (challengeOf t p (held s e)) case) (candidates bytes n))
-      (λ x.
-      sym (settles-wins t lost p (record { side = s; edge = e; case = x }) bytes n (valid-side valid (other s) .edge-places) holds))
+      (λ case. settles lost (inCase (challengeOf t p (held s e)) case) l)
+      (λ x. sym (settles-wins t lost p (record { side = s; edge = e; case = x }) l (valid-side valid (other s) .edge-places) h))
       _)
 
   -- ── A side, edge by edge ──
 
-  module _ (s : Side) (e : ℕ) (b : e < modelOf t s .«edge_count») where
-    abbrev counted : ℕ
-    counted = modelOf t s .«edge_count»
+  -- the edges to attack with are those that start in the side's state
+  pub side-by-range : (s : Side) (r : Range) → Valid 6 t → within r ≡ edgesOf (modelOf t s) (stateOf p s)
+      → sideWinner t lost p s ≡ rangeWinner t lost p s (r .first) (r .end)
+  unfolding sideWinner rangeWinner edgesOf
+  side-by-range s r valid e =
+      let m = modelOf t s in
+      let all : min (m .«edge_count») (length (m .edges)) ≡ m .«edge_count» = omega (arith, valid-side valid s .edge-places) in
+      rw e (rw all)
 
-    more : counted - e ≡ suc (counted - (e + 1))
-    more = omega arith
+  module _ (s : Side) (e n : ℕ) (b : e < n) where
+    range-attacks : rangeWinner t lost p s e n ≡ orElse (edgeWinner t lost p s e) (rangeWinner t lost p s (e + 1) n)
+    unfolding rangeWinner edgeWinner flatMap count
+    range-attacks =
+        let more : n - e ≡ suc (n - (e + 1)) = omega arith in
+        rw (more, add-one) (first-append (winsBy t lost p) (edgeAttacks bisimulation t p s e) _)
 
-    -- an edge that starts in the side's state
-    side-attacks : edgeOf (modelOf t s) e .from ≡ stateOf p s
-        → sideWinner t lost p s e ≡ orElse (edgeWinner t lost p s e) (sideWinner t lost p s (e + 1))
-    unfolding sideWinner edgeWinner flatMap count
-    side-attacks d =
-        rw (more, add-one, keep-passes (attacking bisimulation t p s) e (count (suc e) (counted - suc e)) (eq-eqb _ _ d))
-        (first-append (winsBy t lost p) (edgeAttacks bisimulation t p s e) _)
+    pub edge-wins : (a : Attack) → winOf (edgeWinner t lost p s e) ≡ By a → winOf (rangeWinner t lost p s e n) ≡ By a
+    edge-wins a h = rw range-attacks (found-first a (edgeWinner t lost p s e) _ h)
 
-    pub edge-wins : edgeOf (modelOf t s) e .from ≡ stateOf p s → (a : Attack) → winOf (edgeWinner t lost p s e) ≡ By a
-        → winOf (sideWinner t lost p s e) ≡ By a
-    edge-wins d a h = rw (side-attacks d) (found-first a (edgeWinner t lost p s e) _ h)
+    pub edge-fails : winOf (edgeWinner t lost p s e) ≡ Nobody → rangeWinner t lost p s e n ≡ rangeWinner t lost p s (e + 1) n
+    edge-fails h = rw range-attacks (found-later (edgeWinner t lost p s e) _ h)
 
-    pub edge-fails : edgeOf (modelOf t s) e .from ≡ stateOf p s → winOf (edgeWinner t lost p s e) ≡ Nobody
-        → sideWinner t lost p s e ≡ sideWinner t lost p s (e + 1)
-    edge-fails d h = rw (side-attacks d) (found-later (edgeWinner t lost p s e) _ h)
-
-    -- one that starts elsewhere
-    pub edge-elsewhere : (edgeOf (modelOf t s) e .from ≡ stateOf p s → ⊥)
-        → sideWinner t lost p s e ≡ sideWinner t lost p s (e + 1)
-    unfolding sideWinner count
-    edge-elsewhere d =
-        rw (more, add-one, keep-fails (attacking bisimulation t p s) e (count (suc e) (counted - suc e)) (ne-eqb _ _ d))
-
-  pub edges-end : (s : Side) (e : ℕ) → modelOf t s .«edge_count» ≤ e → sideWinner t lost p s e ≡ none
-  unfolding sideWinner first flatMap keep count
-  edges-end s e b = let d : modelOf t s .«edge_count» - e ≡ 0 = omega arith in rw d
+  pub edges-end : (s : Side) (e n : ℕ) → n ≤ e → rangeWinner t lost p s e n ≡ none
+  unfolding rangeWinner first flatMap count
+  edges-end s e n b = let d : n - e ≡ 0 = omega arith in rw d
 
   -- ── Both sides ──
 
-  winner-by-side : winner bisimulation t lost p ≡ orElse (sideWinner t lost p Left 0) (sideWinner t lost p Right 0)
+  winner-by-side : winner bisimulation t lost p ≡ orElse (sideWinner t lost p Left) (sideWinner t lost p Right)
   unfolding winner sideWinner
   winner-by-side =
       rw (attacks-by-side bisimulation t p)
-      (first-append (winsBy t lost p) (sideAttacks bisimulation t p Left) (sideAttacks bisimulation t p Right) ∙ simp sub-zero)
+      (first-append (winsBy t lost p) (sideAttacks bisimulation t p Left) (sideAttacks bisimulation t p Right))
 
-  pub left-wins : (a : Attack) → winOf (sideWinner t lost p Left 0) ≡ By a → winOf (winner bisimulation t lost p) ≡ By a
-  left-wins a h = rw winner-by-side (found-first a (sideWinner t lost p Left 0) _ h)
+  pub left-wins : (a : Attack) → winOf (sideWinner t lost p Left) ≡ By a → winOf (winner bisimulation t lost p) ≡ By a
+  left-wins a h = rw winner-by-side (found-first a (sideWinner t lost p Left) _ h)
 
-  pub left-fails : winOf (sideWinner t lost p Left 0) ≡ Nobody → winner bisimulation t lost p ≡ sideWinner t lost p Right 0
-  left-fails h = winner-by-side ∙ found-later (sideWinner t lost p Left 0) _ h
+  pub left-fails : winOf (sideWinner t lost p Left) ≡ Nobody → winner bisimulation t lost p ≡ sideWinner t lost p Right
+  left-fails h = winner-by-side ∙ found-later (sideWinner t lost p Left) _ h

@@ -4,7 +4,7 @@ use mathlib.Core.Bool.{Bool}
 use mathlib.Core.List.{List, map, flatMap}
 use mathlib.Core.Option.{Option, none, some}
 use Rattle.fra.specs.Lists.{all, keep, first, count}
-use Rattle.fra.specs.Rules.{bisimulation, modelOf}
+use Rattle.fra.specs.Rules.{bisimulation}
 use Rattle.fra.specs.declared.EdgeKind.{EdgeKind}
 use Rattle.fra.specs.declared.Position.{Position}
 use Rattle.fra.specs.declared.Task.{Task}
@@ -12,7 +12,7 @@ use Rattle.fra.specs.declared.Side.{Side}
 use Rattle.fra.specs.declared.IdCase.{IdCase}
 use Rattle.fra.specs.declared.Attack.{Attack}
 use Rattle.moves.proofs.IdCases.{casesFrom}
-use Rattle.moves.proofs.Attacks.{edgeAttacks, attacking}
+use Rattle.moves.proofs.Attacks.{edgeAttacks, sideAttacks}
 use Rattle.replies.specs.Fan.{candidateAt}
 use Rattle.replies.specs.Search.{isAnswer, inCase, afterReply}
 use Rattle.replies.specs.declared.fan.Candidate.{Candidate}
@@ -26,9 +26,9 @@ abbrev pub winOf : Option Attack → Win
 winOf none = Nobody
 winOf (some a) = By a
 
--- the n candidates that the bytes of a fan hold
-unfoldable pub candidates : List ℕ → ℕ → List Candidate
-candidates bytes n = map (candidateAt bytes) (count 0 n)
+-- the candidates of a table from place i on, below place n
+unfoldable pub candidates : List ℕ → ℕ → ℕ → List Candidate
+candidates bytes i n = map (candidateAt bytes) (count i (n - i))
 
 -- those that answer the challenge
 abbrev pub answering : Challenge → List Candidate → List Candidate
@@ -52,8 +52,10 @@ winIn c e (some case) = By (record { side = c .side; edge = e; case = case })
 unfoldable pub edgeWinner : Task → (Position → Bool) → Position → Side → ℕ → Option Attack
 edgeWinner t lost p s e = first (winsBy t lost p) (edgeAttacks bisimulation t p s e)
 
--- the first attack of side s that wins, from edge e on
-unfoldable pub sideWinner : Task → (Position → Bool) → Position → Side → ℕ → Option Attack
-sideWinner t lost p s e =
-    first (winsBy t lost p)
-    (flatMap (edgeAttacks bisimulation t p s) (keep (attacking bisimulation t p s) (count e (modelOf t s .«edge_count» - e))))
+-- the first attack of side s that wins
+unfoldable pub sideWinner : Task → (Position → Bool) → Position → Side → Option Attack
+sideWinner t lost p s = first (winsBy t lost p) (sideAttacks bisimulation t p s)
+
+-- the first attack of side s that wins, with the edges from number e on, below n, which start in its state
+unfoldable pub rangeWinner : Task → (Position → Bool) → Position → Side → ℕ → ℕ → Option Attack
+rangeWinner t lost p s e n = first (winsBy t lost p) (flatMap (edgeAttacks bisimulation t p s) (count e (n - e)))

@@ -1,6 +1,5 @@
-// The first attack of a position that wins, as far as the table judges the positions that replies lead to.
-use attacks::challenge;
-use attacks::fan_of;
+// The first attack of a position that wins, as far as the table judges the positions that replies lead to. The task is
+// given by its index: left edges, right edges, states.
 use attacks::in_case;
 use attacks::state_of;
 use fra::Attack;
@@ -8,10 +7,7 @@ use fra::EdgeKind;
 use fra::IdCase;
 use fra::Position;
 use fra::Side;
-use fra::Task;
-use lookup::models::edge_of;
-use lookup::models::model_of;
-use lookup::models::set_of;
+use index::Range;
 use moves::cases;
 use moves::cases::CaseFound;
 use moves::registers::other;
@@ -20,9 +16,11 @@ use replies::search;
 use replies::search::Challenge;
 use replies::search::Reply;
 use table::Place;
+ghost use Prim.Native.Nat.{_<_};
 ghost use mathlib.Core.Path.{_≡_};
-ghost use Rattle.fra.specs.Rules.{bisimulation};
-ghost use Rattle.fra.specs.Valid.{Valid};
+ghost use Rattle.fra.specs.Rules.{bisimulation, leftOf, rightOf, modelOf};
+ghost use Rattle.fra.specs.declared.Task.{Task};
+ghost use Rattle.index.specs.Index.{Indexed, ForTask};
 ghost use Rattle.rank_laws.specs.Winner.{winner};
 ghost use Rattle.wins.specs.Judgement.{Searchable, lostBefore};
 ghost use Rattle.wins.specs.Wins.{winOf, winIn, candidates, settles, caseWinner, edgeWinner, sideWinner};
@@ -42,24 +40,25 @@ pub fn lost_before(table: &[u8], n: usize, q: Position, k: u32) -> bool
     let Place::At(i) = place else {
         return false;
     };
-    table::word_at(table, i * table::ENTRY + table::ROUNDS) < k
+    table::word_at(table, i * 12 + 8) < k
 }
 
-// Every reply to the challenge, among the candidates of a fan, leads to a position lost before k.
+// Every reply to the challenge, among the edges of a fan, leads to a position lost before k.
 fn settled(
     table: &[u8],
     n: usize,
     k: u32,
-    fan: &[u8; fan::SIZE],
-    count: usize,
+    edges: &[u8; fan::SIZE],
+    fan: Range,
     challenge: Challenge,
 ) -> bool
     requires { ⌜ Searchable n (now table) ⌝ }
-    ensures { λ r. ⌜ r ≡ settles (lostBefore (now (table .entry)) n k) challenge (candidates (now (fan .entry)) count) ⌝ }
+    ensures { λ r. ⌜ r ≡ settles (lostBefore (now (table .entry)) n k) challenge (candidates (now (edges .entry)) (fan .first) (fan .end)) ⌝ }
 {
-    let mut at = 0;
+    let end = fan.end;
+    let mut at = fan.first;
     loop {
-        let found = search::next_reply(fan, count, at, challenge);
+        let found = search::next_reply(edges, end, at, challenge);
         let reply = found.reply;
         let Reply::To(_) = reply else {
             return true;
@@ -77,15 +76,15 @@ fn case_win(
     table: &[u8],
     n: usize,
     k: u32,
-    fan: &[u8; fan::SIZE],
-    count: usize,
+    edges: &[u8; fan::SIZE],
+    fan: Range,
     challenge: Challenge,
     kind: EdgeKind,
     others: u8,
     e: u8,
 ) -> Win
     requires { ⌜ Searchable n (now table) ⌝ }
-    ensures { λ r. ⌜ r ≡ winIn challenge e (caseWinner (lostBefore (now (table .entry)) n k) (candidates (now (fan .entry)) count) challenge kind others 0) ⌝ }
+    ensures { λ r. ⌜ r ≡ winIn challenge e (caseWinner (lostBefore (now (table .entry)) n k) (candidates (now (edges .entry)) (fan .first) (fan .end)) challenge kind others 0) ⌝ }
 {
     let p = challenge.position;
     let side = challenge.side;
@@ -95,7 +94,7 @@ fn case_win(
         let CaseFound::At(case, next) = found else {
             return Win::Nobody;
         };
-        if settled(table, n, k, fan, count, in_case(challenge, case)) {
+        if settled(table, n, k, edges, fan, in_case(challenge, case)) {
             return Win::By(Attack {
                 side,
                 edge: e,
@@ -107,52 +106,60 @@ fn case_win(
 }
 
 // The first case in which edge e of the side wins.
-fn edge_win(table: &[u8], n: usize, k: u32, t: Task, p: Position, side: Side, e: u8) -> Win
+fn edge_win(
+    table: &[u8],
+    n: usize,
+    k: u32,
+    own: &[u8; fan::SIZE],
+    others: &[u8; fan::SIZE],
+    states: &[u8; index::STATES],
+    p: Position,
+    side: Side,
+    e: usize,
+) -> Win
     requires { ⌜ Searchable n (now table) ⌝ }
-    requires { ⌜ Valid 6 t ⌝ }
-    ensures { λ r. ⌜ r ≡ winOf (edgeWinner t (lostBefore (now (table .entry)) n k) p side e) ⌝ }
+    ensures { λ r. ⌜ ((t : Task) → Indexed t (leftOf side (now (own .entry)) (now (others .entry))) (rightOf side (now (own .entry)) (now (others .entry))) (now (states .entry)) → e < modelOf t side .«edge_count» → r ≡ winOf (edgeWinner t (lostBefore (now (table .entry)) n k) p side e)) ⌝ }
 {
-    let case = IdCase::Held;
-    let a = Attack {
-        side,
-        edge: e,
-        case,
-    };
-    let mut fan = [0u8; fan::SIZE];
-    let count = fan_of(t, p, a, &mut fan);
-    let edge = edge_of(model_of(t, side), e);
-    let kind = edge.kind;
+    let c = fan::candidate_at(own, e);
+    let kind = c.kind;
     let away = other(side);
-    let others = set_of(model_of(t, away), state_of(p, away));
+    let q = state_of(p, away);
+    let fan = index::fan_of(states, away, q, index::tag_of(states, side, e));
+    let held = IdCase::Held;
     case_win(
         table,
         n,
         k,
-        &fan,
-        count,
-        challenge(t, p, a),
-        kind,
         others,
-        e,
+        fan,
+        index::challenge(c, p, side, held),
+        kind,
+        index::set_of(states, away, q),
+        c.edge,
     )
 }
 
 // The first edge and case in which the side wins.
-fn side_win(table: &[u8], n: usize, k: u32, t: Task, p: Position, side: Side) -> Win
+fn side_win(
+    table: &[u8],
+    n: usize,
+    k: u32,
+    own: &[u8; fan::SIZE],
+    others: &[u8; fan::SIZE],
+    states: &[u8; index::STATES],
+    p: Position,
+    side: Side,
+) -> Win
     requires { ⌜ Searchable n (now table) ⌝ }
-    requires { ⌜ Valid 6 t ⌝ }
-    ensures { λ r. ⌜ r ≡ winOf (sideWinner t (lostBefore (now (table .entry)) n k) p side 0) ⌝ }
+    ensures { λ r. ⌜ ForTask (leftOf side (now (own .entry)) (now (others .entry))) (rightOf side (now (own .entry)) (now (others .entry))) (now (states .entry)) r (λ t. winOf (sideWinner t (lostBefore (now (table .entry)) n k) p side)) ⌝ }
 {
-    let own = model_of(t, side);
-    let state = state_of(p, side);
-    let mut e: u8 = 0;
-    while e < own.edge_count {
-        let edge = own.edges[e as usize];
-        if edge.from == state {
-            let win = edge_win(table, n, k, t, p, side, e);
-            if let Win::By(a) = win {
-                return Win::By(a);
-            }
+    let edges = index::edges_of(states, side, state_of(p, side));
+    let end = edges.end;
+    let mut e = edges.first;
+    while e < end {
+        let win = edge_win(table, n, k, own, others, states, p, side, e);
+        if let Win::By(a) = win {
+            return Win::By(a);
         }
         e += 1;
     }
@@ -160,14 +167,21 @@ fn side_win(table: &[u8], n: usize, k: u32, t: Task, p: Position, side: Side) ->
 }
 
 // The first attack of a position, in order of side, edge, case, whose replies all lead to positions lost before k.
-pub fn first_win(table: &[u8], n: usize, t: Task, p: Position, k: u32) -> Win
+pub fn first_win(
+    table: &[u8],
+    n: usize,
+    left: &[u8; fan::SIZE],
+    right: &[u8; fan::SIZE],
+    states: &[u8; index::STATES],
+    p: Position,
+    k: u32,
+) -> Win
     requires { ⌜ Searchable n (now table) ⌝ }
-    requires { ⌜ Valid 6 t ⌝ }
-    ensures { λ r. ⌜ r ≡ winOf (winner bisimulation t (lostBefore (now (table .entry)) n k) p) ⌝ }
+    ensures { λ r. ⌜ ForTask (now (left .entry)) (now (right .entry)) (now (states .entry)) r (λ t. winOf (winner bisimulation t (lostBefore (now (table .entry)) n k) p)) ⌝ }
 {
-    let win = side_win(table, n, k, t, p, Side::Left);
+    let win = side_win(table, n, k, left, right, states, p, Side::Left);
     if let Win::By(a) = win {
         return Win::By(a);
     }
-    side_win(table, n, k, t, p, Side::Right)
+    side_win(table, n, k, right, left, states, p, Side::Right)
 }

@@ -15,7 +15,7 @@ use Rattle.explore.proofs.Explores.{explores-too-many, explores-from}
 use Rattle.explore.proofs.explore.Statement.{statement}
 use Rattle.explore.proofs.explore.Tie as tie
 
--- a valid model has a place in its arrays for each state and edge that it counts
+-- a valid model has a place in its array for each state that it counts
 explorable : (c : tie.Start) → Explorable (c .args .t)
 explorable c =
     let t = c .args .t in
@@ -25,13 +25,10 @@ explorable c =
     let long : length (t .left .states) ≡ 16 = search (needs, length-of-map) in
     let right-states = right .1 .1 .1 .1 .1 .1 .0 in
     let long-right : length (t .right .states) ≡ 16 = search (needs, length-of-map) in
-    let left-edges = left .1 .1 .1 .1 .1 .1 .1 .0 in
-    let long-edges : length (t .left .edges) ≡ 64 = search (needs, length-of-map) in
     record {
       valid = c .pre;
       left-states = omega (arith, c .pre .left .state-places);
       right-states = omega (arith, c .pre .right .state-places);
-      left-edges = omega (arith, c .pre .left .edge-places);
     }
 
 clear-requires : tie.Need-clear-requires

@@ -7,7 +7,7 @@ use Rattle.leads.proofs.attack_of.Tie as tie
 
 returns : tie.Need-returns
 unfolding attackBy
-returns c = rw (eq-eqb _ _ (c .if1 .taken))
+returns c = λ t h. rw (eq-eqb _ _ (c .if1 .taken))
 
 mul-first-win : tie.Need-mul-first-win
 mul-first-win c = search needs
@@ -17,7 +17,7 @@ first-win-requires c κs = search needs
 
 returns-2 : tie.Need-returns-2
 unfolding attackBy
-returns-2 c = rw (ne-eqb _ _ (c .before .if1 .left)) (c .first-win .ensures)
+returns-2 c = λ t h. rw (ne-eqb _ _ (c .before .if1 .left)) (c .first-win .ensures t h)
 
 pub attack-of-spec : {M : Type 1} → statement M
 attack-of-spec = tie.close (tie.spec returns mul-first-win first-win-requires returns-2)

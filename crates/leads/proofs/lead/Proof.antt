@@ -2,7 +2,7 @@
 use mathlib.Core.Path.{sym, _∙_}
 use denote.Ref.{now}
 use Rattle.fra.specs.Rules.{bisimulation}
-use Rattle.certify_laws.proofs.Marking.{led-by, led-nowhere}
+use Rattle.certify_laws.proofs.Marking.{led-by, led-exists, led-nowhere}
 use borrow.Author.Needs.{needs}
 use Rattle.leads.proofs.lead.Statement.{statement}
 use Rattle.leads.proofs.lead.Tie as tie
@@ -23,13 +23,13 @@ same-length : tie.Need-same-length
 same-length c = search needs
 
 returns : tie.Need-returns
-returns c =
+returns c = λ t h.
     let won = c .before .before in
     let placed = won .before .before in
     let a = placed .before .before .before .args in
     sym
-    (led-nowhere bisimulation (a .t) (a .n) (a .k) (a .i) (now (a .table))
-    (rw (← placed .position-at .ensures) (sym (won .attack-of .ensures) ∙ c .enum-told .given .1)))
+    (led-nowhere bisimulation t (a .n) (a .k) (a .i) (now (a .table))
+    (rw (← placed .position-at .ensures) (sym (won .attack-of .ensures t h) ∙ c .enum-told .given .1)))
 
 mark-leads-requires : tie.Need-mark-leads-requires
 mark-leads-requires c κs = search needs
@@ -38,17 +38,16 @@ same-length-2 : tie.Need-same-length-2
 same-length-2 c = search needs
 
 returns-2 : tie.Need-returns-2
-returns-2 c =
+returns-2 c = λ t h.
     let done = c .before .before in
     let found = done .before .before .before in
     let won = found .before .before in
     let placed = won .before .before in
     let a = placed .before .before .before .args in
-    done .mark-leads .ensures
+    let by = rw (placed .position-at .ensures) at (sym (won .attack-of .ensures t h) ∙ found .attack .given .1) in
+    done .mark-leads .ensures t h (led-exists bisimulation t (a .n) (a .k) (a .i) (now (a .table)) (found .attack .given .0 .0) by)
     ∙ rw (placed .position-at .ensures)
-    (sym
-    (led-by bisimulation (a .t) (a .n) (a .k) (a .i) (now (a .table)) (found .attack .given .0 .0)
-    (rw (← placed .position-at .ensures) (sym (won .attack-of .ensures) ∙ found .attack .given .1))))
+    (sym (led-by bisimulation t (a .n) (a .k) (a .i) (now (a .table)) (found .attack .given .0 .0) by))
 
 pub lead-spec : {M : Type 1} → statement M
 lead-spec =

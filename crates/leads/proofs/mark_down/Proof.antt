@@ -11,13 +11,13 @@ use Rattle.leads.proofs.mark_down.Statement.{statement}
 use Rattle.leads.proofs.mark_down.Tie as tie
 
 abbrev Inv-loop : tie.InvT-loop
-Inv-loop table₀ n t rounds k₀ table k =
+Inv-loop table₀ n t left right states rounds k₀ table k =
     (k ≤ rounds)
     × Kept n table₀ table
     × (marking bisimulation t n k table ≡ marking bisimulation t n rounds table₀)
 
 abbrev μ-loop : tie.MeasureT-loop
-μ-loop table₀ n t rounds k₀ table k = k
+μ-loop table₀ n t left right states rounds k₀ table k = k
 
 loop-holds : tie.Need-loop-holds Inv-loop μ-loop
 loop-holds c = (search needs, kept-refl _ _, refl)

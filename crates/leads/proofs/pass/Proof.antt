@@ -5,6 +5,7 @@ use mathlib.Core.Logic.{⊎-elim}
 use native.Mathlib.Omega.{arith}
 use borrow.Author.Needs.{needs}
 use Rattle.fra.specs.Rules.{bisimulation}
+use Rattle.index.specs.Index.{ForTask}
 use Rattle.certify_laws.specs.Marking.{passed}
 use Rattle.certify_laws.proofs.Marking.{pass-taken, pass-left}
 use Rattle.certify_laws.proofs.Kept.{Kept, kept-refl, kept-trans, kept-led, searchable-kept}
@@ -12,14 +13,15 @@ use Rattle.leads.proofs.pass.Statement.{statement}
 use Rattle.leads.proofs.pass.Tie as tie
 
 abbrev Inv-loop : tie.InvT-loop
-Inv-loop table₀ n t k i₀ table i = (i ≤ n) × Kept n table₀ table × (table ≡ passed bisimulation t n k i table₀)
+Inv-loop table₀ n left right states k i₀ table i =
+    (i ≤ n) × Kept n table₀ table × ForTask left right states table (λ t. passed bisimulation t n k i table₀)
 
 abbrev μ-loop : tie.MeasureT-loop
-μ-loop table₀ n t k i₀ table i = n - i
+μ-loop table₀ n left right states k i₀ table i = n - i
 
 loop-holds : tie.Need-loop-holds Inv-loop μ-loop
 unfolding passed
-loop-holds c = (search needs, kept-refl _ _, refl)
+loop-holds c = (search needs, kept-refl _ _, λ t h. refl)
 
 mul-word-at : tie.Need-mul-word-at Inv-loop μ-loop
 mul-word-at c = search needs
@@ -40,7 +42,7 @@ lead-requires : tie.Need-lead-requires Inv-loop μ-loop
 lead-requires c κs =
     let here = c .before .before .before .before .before .loop in
     let start = c .before .before .before .before .before .before .before in
-    (searchable-kept (start .pre .0) (here .inv .1), (start .pre .1 .0, (start .pre .1 .1, omega arith)))
+    (searchable-kept (start .pre .0) (here .inv .1), (start .pre .1 .1, omega arith))
 
 add-i : tie.Need-add-i Inv-loop μ-loop
 add-i c = search needs
@@ -52,21 +54,24 @@ loop-again : tie.Need-loop-again Inv-loop μ-loop
 loop-again c =
     let read = c .before in
     let here = read .before .before .before .loop in
-    let a = read .before .before .before .before .before .args in
+    let start = read .before .before .before .before .before in
+    let a = start .args in
     ⊎-elim
     (λ w. (
       omega arith,
-      kept-trans (here .inv .1) (rw (w .5, w .2 .ensures) (kept-led bisimulation (a .t) (a .n) (a .k) (here .i) (here .table))),
-      w .5
-          ∙ w .2 .ensures
-          ∙ pass-taken bisimulation (a .t) (a .n) (a .k) (here .i) (a .table .now) (here .table) (here .inv .2)
+      kept-trans (here .inv .1) (rw (w .5, w .2 .ensures (a .t) (start .pre .1 .0)) (kept-led bisimulation (a .t) (a .n) (a .k) (here .i) (here .table))),
+      λ t h.
+          w .5
+          ∙ w .2 .ensures t h
+          ∙ pass-taken bisimulation t (a .n) (a .k) (here .i) (a .table .now) (here .table) (here .inv .2 t h)
           (sym (read .word-at .ensures) ∙ w .0 .taken),
     ))
     (λ w. (
       omega arith,
       rw (w .1) (here .inv .1),
-      w .1
-          ∙ pass-left bisimulation (a .t) (a .n) (a .k) (here .i) (a .table .now) (here .table) (here .inv .2)
+      λ t h.
+          w .1
+          ∙ pass-left bisimulation t (a .n) (a .k) (here .i) (a .table .now) (here .table) (here .inv .2 t h)
           (λ e. w .0 .left (read .word-at .ensures ∙ e)),
     ))
     (c .if1 .came)
@@ -77,9 +82,10 @@ same-length c = search needs
 returns : tie.Need-returns Inv-loop μ-loop
 returns c =
     let at = c .before .loop in
-    let a = c .before .before .before .args in
+    let start = c .before .before .before in
+    let a = start .args in
     let full : at .i ≡ a .n = omega arith in
-    subst (λ (i : ℕ). at .table ≡ passed bisimulation (a .t) (a .n) (a .k) i (a .table .now)) full (at .inv .2)
+    subst (λ (i : ℕ). at .table ≡ passed bisimulation (a .t) (a .n) (a .k) i (a .table .now)) full (at .inv .2 (a .t) (start .pre .1 .0))
 
 pub pass-spec : {M : Type 1} → statement M
 pass-spec =

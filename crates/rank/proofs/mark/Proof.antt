@@ -1,22 +1,25 @@
 -- `rank::mark` meets its contract. Assumes nothing.
-use mathlib.Core.Path.{_≡_, sym, _∙_, ap}
+use mathlib.Core.Path.{_≡_, refl, sym, _∙_, ap}
 use borrow.Author.Needs.{needs}
 use borrow.Author.Tests.{not-true, not-false}
+use Rattle.fra.specs.declared.Task.{Task}
+use Rattle.index.specs.Index.{Indexed}
 use Rattle.rank.specs.Passes.{gains}
 use Rattle.rank.proofs.Passing.{isWin, gains-unseen, gains-nothing, gains-by}
 use Rattle.rank.proofs.mark.Statement.{statement}
 use Rattle.rank.proofs.mark.Tie as tie
 
 -- what was looked at and has no rounds is decided by the search
-searched : (c : tie.After-first-win)
+searched : (c : tie.After-first-win) (t : Task)
     → let a = c .before .before .before .before .before .before .before .before .before .before .args in
-    gains (a .table .now) (a .n) (a .t) (a .k) (a .worth .now) (a .i) ≡ isWin (c .first-win .result)
-searched c =
+    Indexed t (a .left .now) (a .right .now) (a .states .now)
+    → gains (a .table .now) (a .n) t (a .k) (a .worth .now) (a .i) ≡ isWin (c .first-win .result)
+searched c t h =
     let never = c .before .before in
     let seen = never .before .before .before in
     let placed = seen .before .before in
     let a = placed .before .before .before .args in
-    gains-by (a .table .now) (a .n) (a .t) (a .k) (a .worth .now) (a .i) (placed .position-at .ensures) (c .first-win .ensures)
+    gains-by (a .table .now) (a .n) t (a .k) (a .worth .now) (a .i) (placed .position-at .ensures) (c .first-win .ensures t h)
     (sym (never .before .word-at .ensures) ∙ never .if2 .left)
     (sym (seen .before .has .ensures) ∙ not-false _ (seen .if1 .left))
 
@@ -32,10 +35,13 @@ same-length c = search needs
 returns : tie.Need-returns
 returns c =
     let placed = c .before .before in
-    let a = placed .before .before .before .args in
-    let g = gains-unseen (a .table .now) (a .n) (a .t) (a .k) (a .worth .now) (a .i) (placed .position-at .ensures)
-    (sym (c .before .has .ensures) ∙ not-true _ (c .if1 .taken)) in
-    (sym g, rw g)
+    let a = placed .before .before .before .args in (
+      λ t h.
+          sym
+          (gains-unseen (a .table .now) (a .n) t (a .k) (a .worth .now) (a .i) (placed .position-at .ensures)
+          (sym (c .before .has .ensures) ∙ not-true _ (c .if1 .taken))),
+      refl,
+    )
 
 mul-word-at : tie.Need-mul-word-at
 mul-word-at c = search needs
@@ -53,11 +59,14 @@ returns-2 : tie.Need-returns-2
 returns-2 c =
     let seen = c .before .before .before in
     let placed = seen .before .before in
-    let a = placed .before .before .before .args in
-    let g = gains-nothing (a .table .now) (a .n) (a .t) (a .k) (a .worth .now) (a .i) (placed .position-at .ensures)
-    (λ e. c .if2 .taken (c .before .word-at .ensures ∙ e))
-    (sym (seen .before .has .ensures) ∙ not-false _ (seen .if1 .left)) in
-    (sym g, rw g)
+    let a = placed .before .before .before .args in (
+      λ t h.
+          sym
+          (gains-nothing (a .table .now) (a .n) t (a .k) (a .worth .now) (a .i) (placed .position-at .ensures)
+          (λ e. c .if2 .taken (c .before .word-at .ensures ∙ e))
+          (sym (seen .before .has .ensures) ∙ not-false _ (seen .if1 .left))),
+      refl,
+    )
 
 first-win-requires : tie.Need-first-win-requires
 first-win-requires c κs = search needs
@@ -72,7 +81,7 @@ same-length-3 : tie.Need-same-length-3
 same-length-3 c = search needs
 
 returns-3 : tie.Need-returns-3
-returns-3 c = let g = searched (c .before .before) ∙ ap isWin (c .enum-told2 .given .1) in (sym g, rw g)
+returns-3 c = (λ t h. sym (searched (c .before .before) t h ∙ ap isWin (c .enum-told2 .given .1)), refl)
 
 mul-put-word : tie.Need-mul-put-word
 mul-put-word c = search needs
@@ -90,8 +99,7 @@ returns-4 : tie.Need-returns-4
 returns-4 c =
     let put = c .before .before in
     let told = put .before .before in
-    let g = searched (told .before .before) ∙ ap isWin (told .enum-told .given .1) in
-    (sym g, rw g (put .put-word .ensures))
+    (λ t h. sym (searched (told .before .before) t h ∙ ap isWin (told .enum-told .given .1)), put .put-word .ensures)
 
 pub mark-spec : {M : Type 1} → statement M
 mark-spec =

@@ -22,16 +22,16 @@ same-length : tie.Need-same-length
 same-length c = search needs
 
 returns : tie.Need-returns
-returns c =
+returns c = λ t h.
     let tested = c .before .before .before .before in
-    rw (← tested .before .before .position-at .ensures, ← tested .before .lost-at-once .ensures, tested .if1 .taken)
+    rw (← tested .before .before .position-at .ensures, ← tested .before .lost-at-once .ensures t h, tested .if1 .taken)
     (c .before .before .put-word .ensures)
 
 same-length-2 : tie.Need-same-length-2
 same-length-2 c = search needs
 
 returns-2 : tie.Need-returns-2
-returns-2 c = rw (← c .before .before .position-at .ensures, ← c .before .lost-at-once .ensures, c .if1 .left)
+returns-2 c = λ t h. rw (← c .before .before .position-at .ensures, ← c .before .lost-at-once .ensures t h, c .if1 .left)
 
 pub mark-at-once-spec : {M : Type 1} → statement M
 mark-at-once-spec =

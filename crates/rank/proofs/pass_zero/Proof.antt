@@ -1,46 +1,44 @@
 -- `rank::pass_zero` meets its contract. The loop's invariant: the entries before `i` have the level of no round, and the others
--- are as they were. Assumes nothing.
+-- are as they were, whichever task the table begins with the positions of. Assumes nothing.
 use Prim.Native.Nat.{_*_, _-_, _≤_}
-use mathlib.Core.Path.{_≡_, refl, sym, _∙_, ap}
+use mathlib.Core.Path.{_≡_, refl, sym, _∙_}
 use native.Mathlib.Numerals.{add-one}
 use native.Mathlib.Omega.{arith}
 use lib.ListN.{length, drop}
 use borrow.Author.Needs.{needs}
 use Rattle.fra.specs.Rules.{bisimulation}
 use Rattle.fra.specs.Reach.{reached}
+use Rattle.fra.specs.declared.Task.{Task}
 use Rattle.outcome.specs.Bytes.{allOnes}
 use Rattle.rank_laws.specs.Levels.{level}
 use Rattle.rank_laws.proofs.Rows.{partly, partly-none, partly-all}
-use Rattle.rank.proofs.Passing.{partly-searchable, zero-next}
+use Rattle.index.specs.Index.{StatesIndexed}
+use Rattle.rank.specs.Passes.{Begins}
+use Rattle.rank.proofs.Passing.{zero-next}
 use Rattle.rank.proofs.pass_zero.Statement.{statement}
 use Rattle.rank.proofs.pass_zero.Tie as tie
 
 abbrev Inv-loop : tie.InvT-loop
-Inv-loop table₀ n t i₀ table i =
+Inv-loop table₀ n states i₀ table i =
     (i ≤ n)
     × (length table ≡ length table₀)
-    × (table ≡ partly (level bisimulation t 0) (λ p. allOnes) (reached bisimulation t) (drop (n * 12) table₀) i)
+    × ((t : Task) → StatesIndexed t states → Begins t (λ p. allOnes) n table₀
+    → table ≡ partly (level bisimulation t 0) (λ p. allOnes) (reached bisimulation t) (drop (n * 12) table₀) i)
 
 abbrev μ-loop : tie.MeasureT-loop
-μ-loop table₀ n t i₀ table i = n - i
+μ-loop table₀ n states i₀ table i = n - i
 
 loop-holds : tie.Need-loop-holds Inv-loop μ-loop
-loop-holds c =
-    let a = c .before .args in (
-      omega arith,
-      refl,
-      c .before .pre .0 .begins ∙ sym (partly-none (level bisimulation (a .t) 0) (λ p. allOnes) (reached bisimulation (a .t)) _),
-    )
+loop-holds c = (
+  omega arith,
+  refl,
+  λ t h b. b .begins ∙ sym (partly-none (level bisimulation t 0) (λ p. allOnes) (reached bisimulation t) _),
+)
 
 mark-at-once-requires : tie.Need-mark-at-once-requires Inv-loop μ-loop
 mark-at-once-requires c κs =
     let at = c .before .before in
-    let start = at .before .before in
-    let a = start .args in
-    let room = partly-searchable (start .pre .1) (drop (a .n * 12) (a .table .now)) (level bisimulation (a .t) 0) (λ p. allOnes)
-    (at .loop .i)
-    .room in
-    omega (arith, room, ap length (at .loop .inv .2), start .pre .0 .counted, c .before .loop-test .taken)
+    omega (arith, at .before .before .pre, at .loop .inv .1, c .before .loop-test .taken)
 
 add-i : tie.Need-add-i Inv-loop μ-loop
 add-i c = search needs
@@ -53,27 +51,26 @@ loop-again c =
     let marked = c .before .before in
     let here = marked .before .before in
     let at = here .before in
-    let start = at .before .before in
-    let a = start .args in (
+    let a = at .before .before .args in (
       search needs,
       marked .mark-at-once .kept .0 ∙ at .loop .inv .1,
-      marked .mark-at-once .ensures
-          ∙ rw (at .loop .inv .2, add-one)
-          (zero-next (start .pre .1) (drop (a .n * 12) (a .table .now)) (at .loop .i) (a .t .start)
-          (omega (arith, start .pre .0 .counted, here .loop-test .taken))),
+      λ t h b.
+          marked .mark-at-once .ensures t h
+          ∙ rw (at .loop .inv .2 t h b, add-one)
+          (zero-next (h .valid) (drop (a .n * 12) (a .table .now)) (at .loop .i) (t .start)
+          (omega (arith, b .counted, here .loop-test .taken))),
     )
 
 same-length : tie.Need-same-length Inv-loop μ-loop
 same-length c = search needs
 
 returns : tie.Need-returns Inv-loop μ-loop
-returns c =
+returns c = λ t h b.
     let at = c .before in
-    let start = at .before .before in
-    let a = start .args in
-    let full : at .loop .i ≡ length (reached bisimulation (a .t)) = omega (arith, start .pre .0 .counted) in
-    at .loop .inv .2
-    ∙ rw full (partly-all (level bisimulation (a .t) 0) (λ p. allOnes) (reached bisimulation (a .t)) (drop (a .n * 12) (a .table .now)))
+    let a = at .before .before .args in
+    let full : at .loop .i ≡ length (reached bisimulation t) = omega (arith, b .counted) in
+    at .loop .inv .2 t h b
+    ∙ rw full (partly-all (level bisimulation t 0) (λ p. allOnes) (reached bisimulation t) (drop (a .n * 12) (a .table .now)))
 
 pub pass-zero-spec : {M : Type 1} → statement M
 pass-zero-spec =

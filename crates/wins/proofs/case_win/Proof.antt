@@ -13,12 +13,12 @@ use Rattle.wins.proofs.case_win.Statement.{statement}
 use Rattle.wins.proofs.case_win.Tie as tie
 
 abbrev Inv-loop : tie.InvT-loop
-Inv-loop table n k fan count challenge kind others e p side from₀ from =
-    caseWinner (lostBefore table n k) (candidates fan count) challenge kind others 0
-    ≡ caseWinner (lostBefore table n k) (candidates fan count) challenge kind others from
+Inv-loop table n k edges fan challenge kind others e p side from₀ from =
+    caseWinner (lostBefore table n k) (candidates edges (fan .first) (fan .end)) challenge kind others 0
+    ≡ caseWinner (lostBefore table n k) (candidates edges (fan .first) (fan .end)) challenge kind others from
 
 abbrev μ-loop : tie.MeasureT-loop
-μ-loop table n k fan count challenge kind others e p side from₀ from = length (casesFrom others p side kind from)
+μ-loop table n k edges fan challenge kind others e p side from₀ from = length (casesFrom others p side kind from)
 
 -- the case that was found is the next one
 next : (c : tie.After-known-told Inv-loop μ-loop)
@@ -43,8 +43,9 @@ settled-is : (c : tie.After-settled Inv-loop μ-loop)
     (c .before .before .before .before .before .before .before .before .before .args .k))
     (inCase (c .before .before .before .before .before .before .before .before .before .args .challenge)
     (c .before .before .before .found .given .0 .0))
-    (candidates (c .before .before .before .before .before .before .before .before .before .args .fan .now)
-    (c .before .before .before .before .before .before .before .before .before .args .count))
+    (candidates (c .before .before .before .before .before .before .before .before .before .args .edges .now)
+    (c .before .before .before .before .before .before .before .before .before .args .fan .first)
+    (c .before .before .before .before .before .before .before .before .before .args .fan .end))
     ≡ c .settled .result
 settled-is c = rw (← c .before .in-case .ensures) (sym (c .settled .ensures))
 
@@ -81,7 +82,7 @@ returns-2 c =
     let a = here .before .before .before .args in
     rw
     (here .loop .inv
-    ∙ case-wins (lostBefore (a .table .now) (a .n) (a .k)) (candidates (a .fan .now) (a .count)) (a .challenge) (a .kind) (a .others)
+    ∙ case-wins (lostBefore (a .table .now) (a .n) (a .k)) (candidates (a .edges .now) (a .fan .first) (a .fan .end)) (a .challenge) (a .kind) (a .others)
     (next found)
     (settled-is (c .before) ∙ c .if1 .taken))
 
@@ -94,7 +95,7 @@ loop-again c =
     let here = found .before .before .before .before in
     let a = here .before .before .before .args in
     here .loop .inv
-    ∙ case-fails (lostBefore (a .table .now) (a .n) (a .k)) (candidates (a .fan .now) (a .count)) (a .challenge) (a .kind) (a .others)
+    ∙ case-fails (lostBefore (a .table .now) (a .n) (a .k)) (candidates (a .edges .now) (a .fan .first) (a .fan .end)) (a .challenge) (a .kind) (a .others)
     (next found)
     (settled-is (c .before) ∙ c .if1 .left)
 

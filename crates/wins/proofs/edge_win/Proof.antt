@@ -1,79 +1,85 @@
--- `wins::edge_win` meets its contract. Assumes nothing.
-use Prim.Native.Nat.{ℕ}
+-- `wins::edge_win` meets its contract: the edge, its fan and its challenge are read of the index. Assumes nothing.
 use mathlib.Core.Path.{sym, _∙_}
 use native.Mathlib.Omega.{arith}
-use lib.ListN.{length-replicate}
 use borrow.Author.Needs.{needs}
-use Rattle.replies.proofs.Fans.{collected-holds}
+use Rattle.fra.specs.Rules.{other, modelOf}
+use Rattle.fra.specs.Position.{stateOf}
+use Rattle.fra_laws.proofs.Legal.{valid-side}
+use Rattle.index.specs.Index.{tagOf}
+use Rattle.index.proofs.Tables.{edge-read}
+use Rattle.index.proofs.Fans.{own-edges, others-edges, fan-read}
 use Rattle.wins.specs.Judgement.{lostBefore}
+use Rattle.wins.specs.Wins.{candidates}
 use Rattle.wins.proofs.Winning.{edge-by-case}
 use Rattle.wins.proofs.edge_win.Statement.{statement}
 use Rattle.wins.proofs.edge_win.Tie as tie
 
-fan-of-requires : tie.Need-fan-of-requires
-fan-of-requires c κs = search needs
-
-model-of-requires : tie.Need-model-of-requires
-model-of-requires c κs = search needs
-
-edge-of-requires : tie.Need-edge-of-requires
-edge-of-requires c κs = search needs
+candidate-at-requires : tie.Need-candidate-at-requires
+candidate-at-requires c κs = search needs
 
 other-requires : tie.Need-other-requires
 other-requires c κs = search needs
 
-model-of-requires-2 : tie.Need-model-of-requires-2
-model-of-requires-2 c κs = search needs
-
 state-of-requires : tie.Need-state-of-requires
 state-of-requires c κs = search needs
 
-set-of-requires : tie.Need-set-of-requires
-set-of-requires c κs = search needs
+tag-of-requires : tie.Need-tag-of-requires
+tag-of-requires c κs = search needs
+
+fan-of-requires : tie.Need-fan-of-requires
+fan-of-requires c κs = search needs
 
 challenge-requires : tie.Need-challenge-requires
 challenge-requires c κs = search needs
 
+set-of-requires : tie.Need-set-of-requires
+set-of-requires c κs = search needs
+
 case-win-requires : tie.Need-case-win-requires
-case-win-requires c κs = c .before .before .before .before .before .before .before .before .before .before .before .pre .0
+case-win-requires c κs = search needs
 
 returns : tie.Need-returns
-returns c =
-    let said = c .before in
-    let set = said .before .before in
-    let state = set .before in
-    let others = state .before in
-    let away = others .before in
-    let edge = away .before in
-    let own = edge .before in
-    let fanned = own .before in
-    let start = fanned .before .before .before in
+unfolding candidates
+returns c = λ t h b.
+    let set = c .before in
+    let said = set .before in
+    let fanned = said .before in
+    let tag = fanned .before in
+    let state = tag .before in
+    let away = state .before in
+    let read = away .before in
+    let start = read .before .before in
     let a = start .args in
+    let m = modelOf t (a .side) in
+    let valid = h .states .valid in
+    let edge = edge-read (own-edges (a .own .now) (a .others .now) (a .side) h) (a .e)
+    (omega (arith, valid-side valid (a .side) .edge-places)) in
+    let fan = rw (state .state-of .ensures, tag .tag-of .ensures t (h .states), away .other .ensures) at
+    (fanned .fan-of .ensures t (h .states)) in
     c .case-win .ensures
     ∙ rw (
+      set .set-of .ensures t (h .states),
       said .challenge .ensures,
-      set .set-of .ensures,
       state .state-of .ensures,
-      others .model-of2 .ensures,
       away .other .ensures,
-      edge .edge-of .ensures,
-      own .model-of .ensures,
+      read .candidate-at .ensures,
+      edge,
     )
     (sym
-    (edge-by-case (a .t) (lostBefore (a .table .now) (a .n) (a .k)) (a .p) (a .side) (a .e) _ _ (start .pre .1)
-    (collected-holds (fanned .fan-of .ensures) (omega (arith, length-replicate {A = ℕ} 320 0)))))
+    (edge-by-case t (lostBefore (a .table .now) (a .n) (a .k)) (a .p) (a .side) (a .e) _ valid
+    (fan-read (valid-side valid (other (a .side))) (others-edges (a .own .now) (a .others .now) (a .side) h)
+    (stateOf (a .p) (other (a .side))) (tagOf m (a .e)) (fanned .fan-of .result) fan)))
 
 pub edge-win-spec : {M : Type 1} → statement M
 edge-win-spec =
     tie.close
     (tie.spec
-    fan-of-requires
-    model-of-requires
-    edge-of-requires
+    candidate-at-requires
     other-requires
-    model-of-requires-2
     state-of-requires
-    set-of-requires
+    tag-of-requires
+    fan-of-requires
     challenge-requires
+    set-of-requires
     case-win-requires
     returns)

@@ -14,12 +14,12 @@ enum-known-win : tie.Need-enum-known-win
 enum-known-win c = search needs
 
 returns : tie.Need-returns
-returns c =
+returns c = λ t h.
     let searched = c .before .before .before in
     let a = searched .before .before .args in
     sym
-    (left-wins (a .t) (lostBefore (a .table .now) (a .n) (a .k)) (a .p) (c .before .win .given .0 .0)
-    (sym (searched .side-win .ensures) ∙ c .before .win .given .1))
+    (left-wins t (lostBefore (a .table .now) (a .n) (a .k)) (a .p) (c .before .win .given .0 .0)
+    (sym (searched .side-win .ensures t h) ∙ c .before .win .given .1))
 
 enum-told : tie.Need-enum-told
 enum-told c = search needs
@@ -28,14 +28,14 @@ side-win-requires-2 : tie.Need-side-win-requires-2
 side-win-requires-2 c κs = c .before .before .before .before .pre
 
 returns-2 : tie.Need-returns-2
-returns-2 c =
+returns-2 c = λ t h.
     let searched = c .before .before .before in
     let a = searched .before .before .args in
-    c .side-win2 .ensures
+    c .side-win2 .ensures t h
     ∙ ap winOf
     (sym
-    (left-fails (a .t) (lostBefore (a .table .now) (a .n) (a .k)) (a .p)
-    (sym (searched .side-win .ensures) ∙ c .before .enum-told .given .1)))
+    (left-fails t (lostBefore (a .table .now) (a .n) (a .k)) (a .p)
+    (sym (searched .side-win .ensures t h) ∙ c .before .enum-told .given .1)))
 
 pub first-win-spec : {M : Type 1} → statement M
 first-win-spec =

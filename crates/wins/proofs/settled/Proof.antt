@@ -1,8 +1,8 @@
--- `wins::settled` meets its contract. The loop's invariant: what is settled of all candidates is settled of those from
+-- `wins::settled` meets its contract. The loop's invariant: what is settled of the fan is settled of its edges from
 -- place `at` on. The measure is how many of these answer. Assumes nothing.
 use mathlib.Core.Path.{_≡_, refl, sym, _∙_}
 use native.Mathlib.Omega.{arith}
-use lib.ListN.{length, drop}
+use lib.ListN.{length}
 use borrow.Author.Needs.{needs}
 use borrow.Author.Tests.{not-true, not-false}
 use Rattle.wins.specs.Judgement.{lostBefore}
@@ -12,23 +12,23 @@ use Rattle.wins.proofs.settled.Statement.{statement}
 use Rattle.wins.proofs.settled.Tie as tie
 
 abbrev Inv-loop : tie.InvT-loop
-Inv-loop table n k fan count challenge at₀ at =
-    settles (lostBefore table n k) challenge (candidates fan count)
-    ≡ settles (lostBefore table n k) challenge (drop at (candidates fan count))
+Inv-loop table n k edges challenge end at₀ at =
+    settles (lostBefore table n k) challenge (candidates edges at₀ end)
+    ≡ settles (lostBefore table n k) challenge (candidates edges at end)
 
 abbrev μ-loop : tie.MeasureT-loop
-μ-loop table n k fan count challenge at₀ at = length (answersAt fan count challenge at)
+μ-loop table n k edges challenge end at₀ at = length (answersAt edges end challenge at)
 
 -- the reply that was found is the first candidate that answers
 found : (c : tie.After-enum-told Inv-loop μ-loop)
-    → NextAnswer (c .before .before .before .before .before .args .fan .now) (c .before .before .before .before .before .args .count)
+    → NextAnswer (c .before .before .before .before .before .args .edges .now) (c .before .before .before .before .before .args .fan .end)
     (c .before .before .before .before .before .args .challenge)
     (c .before .before .before .loop .at)
     (c .before .before .next-reply .result)
 found c =
     let searched = c .before .before in
     let a = searched .before .before .before .args in
-    answer-found (a .fan .now) (a .count) (a .challenge) (searched .before .loop .at) (searched .next-reply .result)
+    answer-found (a .edges .now) (a .fan .end) (a .challenge) (searched .before .loop .at) (searched .next-reply .result)
     (searched .next-reply .ensures)
     (c .enum-told .given .0 .0)
     (c .enum-told .given .1)
@@ -51,8 +51,8 @@ returns c =
     let a = searched .before .before .before .args in
     sym
     (searched .before .loop .inv
-    ∙ settles-none (a .fan .now) (a .count) (a .challenge) _ (searched .before .loop .at)
-    (answer-missing (a .fan .now) (a .count) (a .challenge) (searched .before .loop .at) (searched .next-reply .result)
+    ∙ settles-none (a .edges .now) (a .fan .end) (a .challenge) _ (searched .before .loop .at)
+    (answer-missing (a .edges .now) (a .fan .end) (a .challenge) (searched .before .loop .at) (searched .next-reply .result)
     (searched .next-reply .ensures)
     (c .enum-told2 .given .1)))
 
@@ -65,7 +65,7 @@ returns-2 c =
     let a = here .before .before .args in
     sym
     (here .loop .inv
-    ∙ settles-next (a .fan .now) (a .count) (a .challenge) _ (here .loop .at) (found (c .before .before))
+    ∙ settles-next (a .edges .now) (a .fan .end) (a .challenge) _ (here .loop .at) (found (c .before .before))
     ∙ rw (← c .before .lost-before .ensures, not-true (c .before .lost-before .result) (c .if1 .taken)))
 
 loop-less : tie.Need-loop-less Inv-loop μ-loop
@@ -76,7 +76,7 @@ loop-again c =
     let here = c .before .before .before .before .before in
     let a = here .before .before .args in
     here .loop .inv
-    ∙ settles-next (a .fan .now) (a .count) (a .challenge) _ (here .loop .at) (found (c .before .before))
+    ∙ settles-next (a .edges .now) (a .fan .end) (a .challenge) _ (here .loop .at) (found (c .before .before))
     ∙ rw (← c .before .lost-before .ensures, not-false (c .before .lost-before .result) (c .if1 .left))
 
 pub settled-spec : {M : Type 1} → statement M

@@ -19,15 +19,15 @@ abbrev wanted : Position → Candidate → List ℕ → ℕ → ℕ → Type 0
 wanted p left right i = PairKey p left (candidateAt right i)
 
 abbrev Inv-loop : tie.InvT-loop
-Inv-loop table₀ n p left right count m₀ i₀ table m i = Passed count (wanted p left right) i n table₀ m table
+Inv-loop table₀ n p left right end m₀ i₀ table m i = Passed i₀ end (wanted p left right) i n table₀ m table
 
 abbrev μ-loop : tie.MeasureT-loop
-μ-loop table₀ n p left right count m₀ i₀ table m i = count - i
+μ-loop table₀ n p left right end m₀ i₀ table m i = end - i
 
 loop-holds : tie.Need-loop-holds Inv-loop μ-loop
 loop-holds c =
     let a = c .before .args in
-    passed-none (a .count) (wanted (a .p) (a .left) (a .right .now)) (c .before .pre)
+    passed-none (a .fan .first) (a .fan .end) (wanted (a .p) (a .left) (a .right .now)) (c .before .pre)
 
 candidate-at-requires : tie.Need-candidate-at-requires Inv-loop μ-loop
 candidate-at-requires c κs = search needs
@@ -51,11 +51,13 @@ returns c =
     let call = c .before .before .before .before in
     let turn = call .before .before .before in
     let a = turn .before .before .before .args in
-    passed-overflows (a .count) (wanted (a .p) (a .left) (a .right .now)) (turn .loop-test .taken) (turn .before .loop .inv)
+    passed-overflows (a .fan .first) (a .fan .end) (wanted (a .p) (a .left) (a .right .now)) (turn .loop-test .taken) (turn .before .loop .inv)
     (rw (c .enum-told .given .1, call .before .candidate-at .ensures) at (call .visit-pair .ensures))
 
 add-i : tie.Need-add-i Inv-loop μ-loop
-add-i c = omega arith
+add-i c =
+    let start = c .before .before .before .before .before .before .before .before .before .before .before in
+    omega (arith, start .good .1 .1 .1 .1 .1 .0)
 
 loop-less : tie.Need-loop-less Inv-loop μ-loop
 loop-less c = omega arith
@@ -65,7 +67,7 @@ loop-again c =
     let call = c .before .before .before .before .before in
     let turn = call .before .before .before in
     let a = turn .before .before .before .args in
-    passed-next (a .count) (wanted (a .p) (a .left) (a .right .now)) (turn .loop-test .taken) (turn .before .loop .inv)
+    passed-next (a .fan .first) (a .fan .end) (wanted (a .p) (a .left) (a .right .now)) (turn .loop-test .taken) (turn .before .loop .inv)
     (rw (c .before .more .given .1, call .before .candidate-at .ensures) at (call .visit-pair .ensures))
 
 same-length-2 : tie.Need-same-length-2 Inv-loop μ-loop
@@ -74,7 +76,7 @@ same-length-2 c = c .before .loop .inv .visited .grows .long
 returns-2 : tie.Need-returns-2 Inv-loop μ-loop
 returns-2 c =
     let a = c .before .before .before .args in
-    passed-all (a .count) (wanted (a .p) (a .left) (a .right .now)) (c .loop-test .left) (c .before .loop .inv)
+    passed-all (a .fan .first) (a .fan .end) (wanted (a .p) (a .left) (a .right .now)) (c .loop-test .left) (c .before .loop .inv)
 
 pub visit-fan-spec : {M : Type 1} → statement M
 visit-fan-spec =

@@ -1,9 +1,9 @@
 // The bytes of a certificate's records (01, "Verdict, table, certificate").
 use fra::IdCase;
 use fra::Side;
-use fra::Task;
 use leads::attack_of;
 use outcome::Verdict;
+use replies::fan;
 use table::ENTRY;
 use table::position_at;
 use table::put_word;
@@ -14,10 +14,10 @@ ghost use mathlib.Core.Path.{_≡_};
 ghost use lib.ListN.{length};
 ghost use lib.Seq.{sets};
 ghost use Rattle.fra.specs.Rules.{bisimulation};
-ghost use Rattle.fra.specs.Valid.{Valid};
 ghost use Rattle.outcome.specs.Certificate.{sideNumber, caseNumber, keptRecord};
-ghost use Rattle.table_laws.specs.Table.{positionAt};
 ghost use Rattle.outcome.specs.declared.Verdict.the-variants.{Differ};
+ghost use Rattle.table_laws.specs.Table.{positionAt};
+ghost use Rattle.index.specs.Index.{ForTask};
 ghost use Rattle.wins.specs.Judgement.{Searchable};
 ghost use Rattle.certify_laws.specs.Records.{recordSize, recordAt};
 ghost use Rattle.certify.specs.Fields.{attackBytes};
@@ -89,14 +89,22 @@ pub fn put_attack(buffer: &mut [u8], at: usize, attack: Win)
 }
 
 // Writes the record of entry i, a lost position, whose rounds are doubled in the table.
-fn put_loss(table: &[u8], n: usize, t: Task, i: usize, buffer: &mut [u8], at: usize)
+fn put_loss(
+    table: &[u8],
+    n: usize,
+    left: &[u8; fan::SIZE],
+    right: &[u8; fan::SIZE],
+    states: &[u8; index::STATES],
+    i: usize,
+    buffer: &mut [u8],
+    at: usize,
+)
     requires { ⌜ Searchable n (now table) ⌝ }
-    requires { ⌜ Valid 6 t ⌝ }
     requires { ⌜ (i < n) × (at + 16 ≤ length (now buffer)) ⌝ }
-    ensures { λ _. ⌜ now (buffer .exit) ≡ sets (now (buffer .entry)) at (recordAt bisimulation t Differ n (now (table .entry)) i) ⌝ }
+    ensures { λ _. ⌜ ForTask (now (left .entry)) (now (right .entry)) (now (states .entry)) (now (buffer .exit)) (λ t. sets (now (buffer .entry)) at (recordAt bisimulation t Differ n (now (table .entry)) i)) ⌝ }
 {
     let rounds = word_at(table, i * ENTRY + table::ROUNDS) / 2;
-    let attack = attack_of(table, n, t, position_at(table, i), rounds);
+    let attack = attack_of(table, n, left, right, states, position_at(table, i), rounds);
     put_head(table, i, LOST_KIND, buffer, at);
     put_attack(buffer, at + ATTACK, attack);
     put_word(buffer, at + ROUNDS, rounds);
@@ -106,20 +114,21 @@ fn put_loss(table: &[u8], n: usize, t: Task, i: usize, buffer: &mut [u8], at: us
 pub fn put_record(
     table: &[u8],
     n: usize,
-    t: Task,
+    left: &[u8; fan::SIZE],
+    right: &[u8; fan::SIZE],
+    states: &[u8; index::STATES],
     verdict: Verdict,
     i: usize,
     buffer: &mut [u8],
     at: usize,
 )
     requires { ⌜ Searchable n (now table) ⌝ }
-    requires { ⌜ Valid 6 t ⌝ }
     requires { ⌜ (i < n) × (at + recordSize verdict ≤ length (now buffer)) ⌝ }
-    ensures { λ _. ⌜ now (buffer .exit) ≡ sets (now (buffer .entry)) at (recordAt bisimulation t verdict n (now (table .entry)) i) ⌝ }
+    ensures { λ _. ⌜ ForTask (now (left .entry)) (now (right .entry)) (now (states .entry)) (now (buffer .exit)) (λ t. sets (now (buffer .entry)) at (recordAt bisimulation t verdict n (now (table .entry)) i)) ⌝ }
 {
     match verdict {
         Verdict::Equal => put_head(table, i, KEPT_KIND, buffer, at),
-        Verdict::Differ => put_loss(table, n, t, i, buffer, at),
+        Verdict::Differ => put_loss(table, n, left, right, states, i, buffer, at),
     }
 }
 

@@ -1,10 +1,10 @@
--- `certify::records::put_attack` meets its contract: three bytes in either case. Assumes nothing.
+-- `certify::fields::put_attack` meets its contract: three bytes in either case. Assumes nothing.
 use native.Mathlib.Omega.{arith}
 use lib.ListN.{length-set}
 use borrow.Author.Needs.{needs}
 use Rattle.certify.proofs.Parts.{three-written}
-use Rattle.certify.proofs.records.put_attack.Statement.{statement}
-use Rattle.certify.proofs.records.put_attack.Tie as tie
+use Rattle.certify.proofs.fields.put_attack.Statement.{statement}
+use Rattle.certify.proofs.fields.put_attack.Tie as tie
 
 enum-known-attack : tie.Need-enum-known-attack
 enum-known-attack c = search needs

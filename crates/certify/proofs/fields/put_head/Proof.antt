@@ -1,11 +1,11 @@
--- `certify::records::put_head` meets its contract: a kind and two words. Assumes nothing.
+-- `certify::fields::put_head` meets its contract: a kind and two words. Assumes nothing.
 use mathlib.Core.Path.{_≡_, _∙_}
 use native.Mathlib.Omega.{arith}
 use lib.ListN.{length, length-set}
 use borrow.Author.Needs.{needs}
 use Rattle.certify.proofs.Parts.{head-written}
-use Rattle.certify.proofs.records.put_head.Statement.{statement}
-use Rattle.certify.proofs.records.put_head.Tie as tie
+use Rattle.certify.proofs.fields.put_head.Statement.{statement}
+use Rattle.certify.proofs.fields.put_head.Tie as tie
 
 -- the buffer's length after the first word
 long : (c : tie.After-put-word) → length (c .put-word .last .0) ≡ length (c .before .before .before .before .before .args .buffer .now)

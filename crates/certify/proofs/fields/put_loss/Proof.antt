@@ -1,4 +1,4 @@
--- `certify::records::put_loss` meets its contract: a kind, a position, an attack and rounds, one behind another. Assumes nothing.
+-- `certify::fields::put_loss` meets its contract: a kind, a position, an attack and rounds, one behind another. Assumes nothing.
 use native.Mathlib.Omega.{arith}
 use denote.Ref.{now}
 use borrow.Author.Needs.{needs}
@@ -6,8 +6,8 @@ use Rattle.table_laws.specs.Table.{positionAt}
 use Rattle.certify_laws.specs.Records.{recordAt}
 use Rattle.certify_laws.proofs.Filling.{entry-six}
 use Rattle.certify.proofs.Parts.{loss-written}
-use Rattle.certify.proofs.records.put_loss.Statement.{statement}
-use Rattle.certify.proofs.records.put_loss.Tie as tie
+use Rattle.certify.proofs.fields.put_loss.Statement.{statement}
+use Rattle.certify.proofs.fields.put_loss.Tie as tie
 
 mul-word-at : tie.Need-mul-word-at
 mul-word-at c = search needs
@@ -24,7 +24,7 @@ position-at-requires c κs = search needs
 attack-of-requires : tie.Need-attack-of-requires
 attack-of-requires c κs =
     let start = c .before .before .before .before in
-    (start .pre .0, (start .pre .1 .0, omega arith))
+    (start .pre .0, omega arith)
 
 put-head-requires : tie.Need-put-head-requires
 put-head-requires c κs = search needs
@@ -46,7 +46,7 @@ same-length c = search needs
 
 returns : tie.Need-returns
 unfolding recordAt
-returns c =
+returns c = λ t h.
     let rounded = c .before .before in
     let attacked = rounded .before .before .before .before in
     let headed = attacked .before .before .before .before in
@@ -59,7 +59,7 @@ returns c =
       rounded .put-word .ensures,
       attacked .put-attack .ensures,
       headed .put-head .ensures,
-      won .attack-of .ensures,
+      won .attack-of .ensures t h,
       placed .position-at .ensures,
       read .word-at .ensures,
     )

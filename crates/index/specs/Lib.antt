@@ -1,0 +1,2 @@
+-- What the tables of an index hold.
+pub mod Index

@@ -46,7 +46,8 @@ pub fn attack_of(
     if k == 0 {
         return Win::Nobody;
     }
-    first_win(table, n, left, right, states, p, k * 2)
+    let all = [1u8; pairs::SIZE];
+    first_win(table, n, &all, left, right, states, p, k * 2)
 }
 
 // Marks what the replies to an attack lead to, by the edges of its side and of the other side.

@@ -1,5 +1,6 @@
 // Sets of pairs of a left and a right state, with a byte for each pair that is not 0 for a member. They tell ranking which
-// positions a pass can leave alone: those from whose states no round leads to the states of a position lost in the pass before.
+// positions a pass can leave alone: those from whose states no round leads to the states of a position lost in the pass before;
+// and which it need not look up: those with whose states none is lost.
 use fra::Edge;
 use fra::Model;
 use fra::Task;
@@ -11,7 +12,7 @@ ghost use Prim.Native.Nat.{_*_, _≤_, _<_};
 ghost use mathlib.Core.Path.{_≡_};
 ghost use lib.ListN.{length};
 ghost use Rattle.fra.specs.Valid.{Valid};
-ghost use Rattle.rank_laws.specs.Pairs.{pairOf, hasPair, withPair, lostPairs, leadsInto, withSources, sources};
+ghost use Rattle.rank_laws.specs.Pairs.{pairOf, hasPair, withPair, between, lostPairs, leadsInto, withSources, sources};
 
 // The bytes of a set.
 pub const SIZE: usize = 256;
@@ -35,15 +36,22 @@ fn add(pairs: &mut [u8; SIZE], left: u8, right: u8)
     pairs[place(left, right)] = 1;
 }
 
-// The pairs of the positions of the first n entries that have k rounds.
-pub fn lost_pairs(table: &[u8], n: usize, k: u32) -> [u8; SIZE]
+// The rounds are not fewer than `from`, and fewer than `below`.
+fn between(rounds: u32, from: u32, below: u32) -> bool
+    ensures { λ r. ⌜ r ≡ between from below rounds ⌝ }
+{
+    from <= rounds && rounds < below
+}
+
+// The pairs of the positions of the first n entries whose rounds are not fewer than `from`, and fewer than `below`.
+pub fn lost_pairs(table: &[u8], n: usize, from: u32, below: u32) -> [u8; SIZE]
     requires { ⌜ n * 12 ≤ length (now table) ⌝ }
-    ensures { λ r. ⌜ r ≡ lostPairs (now (table .entry)) k n ⌝ }
+    ensures { λ r. ⌜ r ≡ lostPairs (now (table .entry)) from below n ⌝ }
 {
     let mut lost = [0u8; SIZE];
     let mut i = 0;
     while i < n {
-        if word_at(table, i * ENTRY + ROUNDS) == k {
+        if between(word_at(table, i * ENTRY + ROUNDS), from, below) {
             let p = position_at(table, i);
             add(&mut lost, p.left, p.right);
         }

@@ -2,7 +2,7 @@
 use Prim.Native.Nat.{ℕ, suc, _+_, _*_, _-_, _^_, _≤_, _<_}
 use mathlib.Core.Path.{_≡_, refl, sym, _∙_, ap}
 use mathlib.Core.Logic.{⊎-elim}
-use mathlib.Core.Bool.{Bool, true, false, _&&_, _||_, or-false, or-assoc}
+use mathlib.Core.Bool.{Bool, true, false, _&&_, _||_, and-false, or-false, or-assoc}
 use mathlib.Core.List.{List, _++_}
 use mathlib.Core.Option.{Option, none, some}
 use native.Mathlib.Nat.{le-refl}
@@ -40,15 +40,15 @@ use Rattle.table.proofs.Places.{place-at}
 use Rattle.rank_laws.specs.Levels.{level, ranked}
 use Rattle.rank_laws.specs.Rows.{rows, roundsAt}
 use Rattle.rank_laws.specs.Winner.{winner, isFound}
-use Rattle.rank_laws.specs.Pairs.{hasPair, lostPairs, sources, Covers}
+use Rattle.rank_laws.specs.Pairs.{hasPair, lostPairs, sources, Covers, CoversLost}
 use Rattle.rank_laws.proofs.Levels.{level-judges, level-step, level-zero, level-final, ranked-step, ranked-bound}
 use Rattle.rank_laws.proofs.Rows.{flatMap-same, partly, partly-none, partly-room, partly-position, partly-rounds, partly-positions, partly-here, partly-next}
 use Rattle.rank_laws.proofs.Positions.{positions-kept}
 use Rattle.rank_laws.proofs.Winners.{chosen-winner, winner-same}
-use Rattle.rank_laws.proofs.Pairs.{covers-next}
+use Rattle.rank_laws.proofs.Pairs.{covers-lost, covers-next}
 use Rattle.wins.specs.declared.Win.{Win}
 use Rattle.wins.specs.declared.Win.the-variants.{By, Nobody}
-use Rattle.wins.specs.Judgement.{Searchable, lostBefore}
+use Rattle.wins.specs.Judgement.{Searchable, lostBefore, lostAmong}
 use Rattle.wins.specs.Wins.{winOf}
 use Rattle.rank.specs.Passes.{Begins, gains, markedIf}
 
@@ -62,23 +62,23 @@ found-is : (o : Option Attack) → isWin (winOf o) ≡ isFound o
 found-is none = refl
 found-is (some a) = refl
 
-module _ (table : List ℕ) (n : ℕ) (t : Task) (k : ℕ) (worth : List ℕ) (i : ℕ) {p : Position} (here : p ≡ positionAt table i) where
-  pub gains-unseen : hasPair worth (p .left) (p .right) ≡ false → gains table n t k worth i ≡ false
+module _ (table : List ℕ) (n : ℕ) (losing : List ℕ) (t : Task) (k : ℕ) (worth : List ℕ) (i : ℕ) {p : Position} (here : p ≡ positionAt table i) where
+  pub gains-unseen : hasPair worth (p .left) (p .right) ≡ false → gains table n losing t k worth i ≡ false
   unfolding gains
   gains-unseen e = rw (rw here at e)
 
   pub gains-nothing : (roundsAt table i ≡ allOnes → ⊥) → hasPair worth (p .left) (p .right) ≡ true
-      → gains table n t k worth i ≡ false
+      → gains table n losing t k worth i ≡ false
   unfolding gains
   gains-nothing d e = rw (rw here at e, ne-eqb (roundsAt table i) allOnes d)
 
-  pub gains-by : {w : Win} → w ≡ winOf (winner bisimulation t (lostBefore table n k) p)
+  pub gains-by : {w : Win} → w ≡ winOf (winner bisimulation t (lostAmong losing table n k) p)
       → roundsAt table i ≡ allOnes
       → hasPair worth (p .left) (p .right) ≡ true
-      → gains table n t k worth i ≡ isWin w
+      → gains table n losing t k worth i ≡ isWin w
   unfolding gains
   gains-by h d e =
-      rw (rw here at e, d, h, here) (sym (found-is (winner bisimulation t (lostBefore table n k) (positionAt table i))))
+      rw (rw here at e, d, h, here) (sym (found-is (winner bisimulation t (lostAmong losing table n k) (positionAt table i))))
 
 -- marks leave the table searchable
 pub marked-searchable : (test : Bool) {n : ℕ} {table : List ℕ} (i k : ℕ) → Searchable n table → Searchable n (markedIf test table i k)
@@ -143,9 +143,9 @@ module _ {t : Task} (valid : Valid 6 t) (rest : List ℕ) where
     table = partly (level bisimulation t (suc k)) (level bisimulation t k) l rest i
 
     -- it judges positions reached rightly
-    judges : (q : Position) → q ∈ l → lostBefore table (length l) (suc k) q ≡ lostWithin bisimulation t k q
+    looked-up : (q : Position) → q ∈ l → lostBefore table (length l) (suc k) q ≡ lostWithin bisimulation t k q
     unfolding lostBefore
-    judges q m =
+    looked-up q m =
         let (j, b, e) = member-place q m in
         rw (partly-positions (level bisimulation t (suc k)) (level bisimulation t k) l rest (six valid) i, ← e)
         (rw (place-member l (reached-rising valid bisimulation) j q b)
@@ -155,60 +155,76 @@ module _ {t : Task} (valid : Valid 6 t) (rest : List ℕ) where
         (level-small t (suc k) (getD l j q) (omega arith))
         (level-small t k (getD l j q) (omega arith)))))
 
+    -- also if it is not asked for those whose states none of the lost positions has
+    judges : (losing : List ℕ) → CoversLost bisimulation t k losing → (q : Position) → q ∈ l
+        → lostAmong losing table (length l) (suc k) q ≡ lostWithin bisimulation t k q
+    unfolding lostAmong
+    judges losing covers q m = rw (looked-up q m) (step (lostWithin bisimulation t k q) refl)
+      where
+        step : (b : Bool) → lostWithin bisimulation t k q ≡ b
+            → hasPair losing (q .left) (q .right) && lostWithin bisimulation t k q ≡ lostWithin bisimulation t k q
+        step true e = rw (covers q m e)
+        step false e = rw e (and-false (hasPair losing (q .left) (q .right)))
+
     -- entry i gains rounds exactly if its position has rank k + 1
-    module _ (worth : List ℕ) (covers : Covers bisimulation t (suc k) worth) (z : Position) (b : i < length l) where
-      abbrev p : Position
-      p = getD l i z
+    module _ (losing : List ℕ) (covers-lost : CoversLost bisimulation t k losing) (worth : List ℕ) (covers : Covers bisimulation t (suc k) worth)
+        (z : Position)
+        (b : i < length l)
+      where
+        abbrev p : Position
+        p = getD l i z
 
-      won : winner bisimulation t (lostBefore table (length l) (suc k)) p ≡ chosen bisimulation t k p
-      won =
-          winner-same bisimulation t (lostBefore table (length l) (suc k)) (lostWithin bisimulation t k) p
-          (λ a m j r. judges (after t p a j) (reached-after valid bisimulation p a j (at-member l i z b) m r))
-          ∙ sym (chosen-winner bisimulation t k p)
+        won : winner bisimulation t (lostAmong losing table (length l) (suc k)) p ≡ chosen bisimulation t k p
+        won =
+            winner-same bisimulation t (lostAmong losing table (length l) (suc k)) (lostWithin bisimulation t k) p
+            (λ a m j r. judges losing covers-lost (after t p a j) (reached-after valid bisimulation p a j (at-member l i z b) m r))
+            ∙ sym (chosen-winner bisimulation t k p)
 
-      gains-rank : gains table (length l) t (suc k) worth i ≡ ranked bisimulation t (suc k) p
-      unfolding gains
-      gains-rank =
-          rw (partly-position (level bisimulation t (suc k)) (level bisimulation t k) l rest (six valid) i i z b)
-          (step (hasPair worth (p .left) (p .right)) refl)
-        where
-          step : (seen : Bool) → hasPair worth (p .left) (p .right) ≡ seen
-              → (hasPair worth (p .left) (p .right)
-              && eqb (roundsAt table i) allOnes
-              && isFound (winner bisimulation t (lostBefore table (length l) (suc k)) p))
-              ≡ ranked bisimulation t (suc k) p
-          step true e =
-              rw (
-                e,
-                partly-here (level bisimulation t (suc k)) (level bisimulation t k) l rest (six valid) i z b (level-small t k p (omega arith)),
-                won,
-              )
-              (sym (ranked-step bisimulation t k p small))
-          step false e = rw e (sym (fails-unless _ (λ r. not-both _ (covers p (at-member l i z b) r) e)))
+        gains-rank : gains table (length l) losing t (suc k) worth i ≡ ranked bisimulation t (suc k) p
+        unfolding gains
+        gains-rank =
+            rw (partly-position (level bisimulation t (suc k)) (level bisimulation t k) l rest (six valid) i i z b)
+            (step (hasPair worth (p .left) (p .right)) refl)
+          where
+            step : (seen : Bool) → hasPair worth (p .left) (p .right) ≡ seen
+                → (hasPair worth (p .left) (p .right)
+                && eqb (roundsAt table i) allOnes
+                && isFound (winner bisimulation t (lostAmong losing table (length l) (suc k)) p))
+                ≡ ranked bisimulation t (suc k) p
+            step true e =
+                rw (
+                  e,
+                  partly-here (level bisimulation t (suc k)) (level bisimulation t k) l rest (six valid) i z b (level-small t k p (omega arith)),
+                  won,
+                )
+                (sym (ranked-step bisimulation t k p small))
+            step false e = rw e (sym (fails-unless _ (λ r. not-both _ (covers p (at-member l i z b) r) e)))
 
-      -- so it has its new level then
-      gains-next : markedIf (gains table (length l) t (suc k) worth i) table i (suc k)
-          ≡ partly (level bisimulation t (suc k)) (level bisimulation t k) l rest (suc i)
-      gains-next =
-          rw gains-rank
-          (partly-next (level bisimulation t (suc k)) (level bisimulation t k) l rest (six valid) i z b (ranked bisimulation t (suc k) p) (suc k)
-          (level-step bisimulation t k p))
+        -- so it has its new level then
+        gains-next : markedIf (gains table (length l) losing t (suc k) worth i) table i (suc k)
+            ≡ partly (level bisimulation t (suc k)) (level bisimulation t k) l rest (suc i)
+        gains-next =
+            rw gains-rank
+            (partly-next (level bisimulation t (suc k)) (level bisimulation t k) l rest (six valid) i z b (ranked bisimulation t (suc k) p) (suc k)
+            (level-step bisimulation t k p))
 
   -- the same of pass k, from pass 1 on
   module _ (n k i : ℕ) {table : List ℕ} (z : Position) (counted : n ≡ length l) (least : 1 ≤ k) (small : k < allOnes) (inside : i < n)
       (e : table ≡ partly (level bisimulation t k) (level bisimulation t (k - 1)) l rest i)
+      (losing : List ℕ)
+      (covers-lost : CoversLost bisimulation t (k - 1) losing)
       (worth : List ℕ)
       (covers : Covers bisimulation t k worth)
     where
       s : suc (k - 1) ≡ k
       s = omega arith
 
-      pub pass-gains : gains table n t k worth i ≡ ranked bisimulation t k (getD l i z)
-      pass-gains = rw (e, counted) (rw s at (gains-rank (k - 1) i (omega arith) worth (rw s covers) z (omega arith)))
+      pub pass-gains : gains table n losing t k worth i ≡ ranked bisimulation t k (getD l i z)
+      pass-gains = rw (e, counted) (rw s at (gains-rank (k - 1) i (omega arith) losing covers-lost worth (rw s covers) z (omega arith)))
 
-      pub pass-next : markedIf (gains table n t k worth i) table i k
+      pub pass-next : markedIf (gains table n losing t k worth i) table i k
           ≡ partly (level bisimulation t k) (level bisimulation t (k - 1)) l rest (i + 1)
-      pass-next = rw (e, counted, add-one) (rw s at (gains-next (k - 1) i (omega arith) worth (rw s covers) z (omega arith)))
+      pass-next = rw (e, counted, add-one) (rw s at (gains-next (k - 1) i (omega arith) losing covers-lost worth (rw s covers) z (omega arith)))
 
   -- ── Pass 0 ──
 
@@ -251,12 +267,17 @@ module _ {t : Task} (valid : Valid 6 t) where
       rw (b .counted, b .begins, ← partly-none f f reachable (drop (n * 12) table))
       (partly-searchable valid (drop (n * 12) table) f f 0)
 
-  -- what a pass from 1 on has marked tells where the next one has to look
-  pub pass-covers : (k n : ℕ) (rest : List ℕ) {table : List ℕ} → 1 ≤ k → k + 1 < allOnes → n ≡ length reachable
-      → table ≡ rows (level bisimulation t k) reachable ++ rest
-      → Covers bisimulation t (k + 1) (sources (t .left) (t .right) (lostPairs table k n) (t .left .«edge_count»))
-  pass-covers k n rest a b counted e =
-      rw add-one (covers-next valid bisimulation Left refl k n rest a (omega arith) (six valid) counted e)
+  module _ (k n : ℕ) (rest : List ℕ) {table : List ℕ} (small : k + 1 < allOnes) (counted : n ≡ length reachable)
+      (e : table ≡ rows (level bisimulation t k) reachable ++ rest)
+    where
+      -- what pass k has left tells which states have lost positions
+      pub pass-covers-lost : CoversLost bisimulation t k (lostPairs table 0 (k + 1) n)
+      pass-covers-lost = rw add-one (covers-lost valid bisimulation Left refl k n rest (omega arith) (six valid) counted e)
+
+      -- what pass k has marked, from pass 1 on, tells where the next one has to look
+      pub pass-covers : 1 ≤ k
+          → Covers bisimulation t (k + 1) (sources (t .left) (t .right) (lostPairs table k (k + 1) n) (t .left .«edge_count»))
+      pass-covers a = rw add-one (covers-next valid bisimulation Left refl k n rest (omega arith) (six valid) counted e a)
 
   -- a pass from 1 on that marks an entry is one of as many as there are positions
   pub pass-bound : (k : ℕ) → k < allOnes → any (ranked bisimulation t k) reachable ≡ true → k ≤ length reachable

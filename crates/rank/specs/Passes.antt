@@ -14,29 +14,30 @@ use Rattle.table_laws.specs.Table.{putWord, positionAt}
 use Rattle.rank_laws.specs.Levels.{level}
 use Rattle.rank_laws.specs.Rows.{rows, roundsAt}
 use Rattle.rank_laws.specs.Winner.{winner, isFound}
-use Rattle.rank_laws.specs.Pairs.{hasPair, Covers}
-use Rattle.wins.specs.Judgement.{lostBefore}
+use Rattle.rank_laws.specs.Pairs.{hasPair, Covers, CoversLost}
+use Rattle.wins.specs.Judgement.{lostAmong}
 
 -- the table begins with the n positions reached, with these rounds
 pub record Begins (t : Task) (rounds : Position → ℕ) (n : ℕ) (table : List ℕ) : Type 0 where
   pub counted : n ≡ length (reached bisimulation t)
   pub begins : table ≡ rows rounds (reached bisimulation t) ++ drop (n * 12) table
 
--- pass k can be made: it is one from 1 on that four bytes can count, the pass before has left its levels, and `worth` has the states
--- of each position that pass k marks
-pub record Ready (t : Task) (k n : ℕ) (table worth : List ℕ) : Type 0 where
+-- pass k can be made: it is one from 1 on that four bytes can count, the pass before has left its levels, `losing` has the states of
+-- each position lost before, and `worth` those of each position that pass k marks
+pub record Ready (t : Task) (k n : ℕ) (table losing worth : List ℕ) : Type 0 where
   pub least : 1 ≤ k
   pub small : k < allOnes
   pub begins : Begins t (level bisimulation t (k - 1)) n table
+  pub covers-lost : CoversLost bisimulation t (k - 1) losing
   pub covers : Covers bisimulation t k worth
 
 -- the states of entry i are in the set of those worth a look, it has no rounds yet, and an attack wins by positions that the table
 -- has with fewer rounds than k
-unfoldable pub gains : List ℕ → ℕ → Task → ℕ → List ℕ → ℕ → Bool
-gains table n t k worth i =
+unfoldable pub gains : List ℕ → ℕ → List ℕ → Task → ℕ → List ℕ → ℕ → Bool
+gains table n losing t k worth i =
     hasPair worth (positionAt table i .left) (positionAt table i .right)
     && eqb (roundsAt table i) allOnes
-    && isFound (winner bisimulation t (lostBefore table n k) (positionAt table i))
+    && isFound (winner bisimulation t (lostAmong losing table n k) (positionAt table i))
 
 -- the table with rounds k at entry i where a test passes
 abbrev pub markedIf : Bool → List ℕ → ℕ → ℕ → List ℕ

@@ -1,7 +1,8 @@
 // Ranks by passes over the sorted table in its final layout: after pass k an entry's rounds are exact if at most k, else
 // FF FF FF FF. A reply counts as lost in pass k if its rounds are fewer than k, so marks of the same pass do not count. From
-// pass 2 on a pass looks only at positions whose states lead to the states of one that the pass before has marked. The task is
-// read by its index: left edges, right edges, states.
+// pass 2 on a pass looks only at positions whose states lead to the states of one that the pass before has marked. Where a reply
+// leads is looked up only if positions with its states are lost (`losing`). The task is read by its index: left edges, right
+// edges, states.
 use fra::Task;
 use index::lost_at_once;
 use replies::fan;
@@ -57,6 +58,7 @@ fn pass_zero(table: &mut [u8], n: usize, states: &[u8; index::STATES])
 fn mark(
     table: &mut [u8],
     n: usize,
+    losing: &[u8; pairs::SIZE],
     left: &[u8; fan::SIZE],
     right: &[u8; fan::SIZE],
     states: &[u8; index::STATES],
@@ -66,7 +68,7 @@ fn mark(
 ) -> bool
     requires { ⌜ Searchable n (now table) ⌝ }
     requires { ⌜ i < n ⌝ }
-    ensures { λ r. ⌜ ForTask (now (left .entry)) (now (right .entry)) (now (states .entry)) r (λ t. gains (now (table .entry)) n t k (now (worth .entry)) i) ⌝ }
+    ensures { λ r. ⌜ ForTask (now (left .entry)) (now (right .entry)) (now (states .entry)) r (λ t. gains (now (table .entry)) n (now (losing .entry)) t k (now (worth .entry)) i) ⌝ }
     ensures { λ r. ⌜ now (table .exit) ≡ markedIf r (now (table .entry)) i k ⌝ }
 {
     let p = position_at(table, i);
@@ -76,7 +78,7 @@ fn mark(
     if word_at(table, i * ENTRY + ROUNDS) != NEVER {
         return false;
     }
-    let win = first_win(table, n, left, right, states, p, k);
+    let win = first_win(table, n, losing, left, right, states, p, k);
     let Win::By(_) = win else {
         return false;
     };
@@ -88,6 +90,7 @@ fn mark(
 fn pass(
     table: &mut [u8],
     n: usize,
+    losing: &[u8; pairs::SIZE],
     left: &[u8; fan::SIZE],
     right: &[u8; fan::SIZE],
     states: &[u8; index::STATES],
@@ -95,12 +98,12 @@ fn pass(
     worth: &[u8; pairs::SIZE],
 ) -> bool
     requires { ⌜ Searchable n (now table) ⌝ }
-    ensures { λ r. ⌜ ((t : Task) → Indexed t (now (left .entry)) (now (right .entry)) (now (states .entry)) → Ready t k n (now (table .entry)) (now (worth .entry)) → (r ≡ any (ranked bisimulation t k) (reached bisimulation t)) × (now (table .exit) ≡ rows (level bisimulation t k) (reached bisimulation t) ++ drop (n * 12) (now (table .entry)))) ⌝ }
+    ensures { λ r. ⌜ ((t : Task) → Indexed t (now (left .entry)) (now (right .entry)) (now (states .entry)) → Ready t k n (now (table .entry)) (now (losing .entry)) (now (worth .entry)) → (r ≡ any (ranked bisimulation t k) (reached bisimulation t)) × (now (table .exit) ≡ rows (level bisimulation t k) (reached bisimulation t) ++ drop (n * 12) (now (table .entry)))) ⌝ }
 {
     let mut marked = false;
     let mut i = 0;
     while i < n {
-        if mark(table, n, left, right, states, k, worth, i) {
+        if mark(table, n, losing, left, right, states, k, worth, i) {
             marked = true;
         }
         i += 1;
@@ -118,12 +121,15 @@ pub fn rank(table: &mut [u8], n: usize, t: Task)
     let right = index::edges(t.right);
     let states = index::states(t);
     pass_zero(table, n, &states);
+    let mut losing = pairs::lost_pairs(table, n, 0, 1);
     // An attack without a reply wins in pass 1 whatever pass 0 has marked.
     let mut worth = [1u8; pairs::SIZE];
     let mut k: u32 = 1;
-    while pass(table, n, &left, &right, &states, k, &worth) {
-        let lost = pairs::lost_pairs(table, n, k);
+    while pass(table, n, &losing, &left, &right, &states, k, &worth) {
+        let next = k + 1;
+        let lost = pairs::lost_pairs(table, n, k, next);
+        losing = pairs::lost_pairs(table, n, 0, next);
         worth = pairs::sources(t, &lost);
-        k += 1;
+        k = next;
     }
 }

@@ -1,5 +1,6 @@
 -- Sets of state pairs: what is added stays, and where k is not 0 the states of a position of rank k + 1 are among those that lead
--- to the states of positions of rank k. So a pass may leave all other positions as they are. Assumes nothing.
+-- to the states of positions of rank k. So a pass may leave all other positions as they are. And the states of a position that is
+-- lost are among those found in the table. Assumes nothing.
 use Prim.Native.Nat.{ℕ, zero, suc, _+_, _*_, _^_, _≤_, _<_}
 use mathlib.Core.Path.{_≡_, sym, _∙_}
 use mathlib.Core.Logic.{⊎-elim}
@@ -10,7 +11,7 @@ use native.Mathlib.Omega.{arith}
 use native.Mathlib.Decide.{ℕ-discrete, le-ind}
 use lib.ListN.{length, getD, replicate, length-set, length-replicate, getD-replicate}
 use lib.Seq.{getD-set-same, getD-set-other}
-use borrow.Author.Tests.{eqb-true, eq-eqb}
+use borrow.Author.Tests.{eqb-true, eq-eqb, ltb-true, le-leb, lt-ltb}
 use Rattle.fra.specs.Lists.{_∈_}
 use Rattle.fra.specs.Model.{edgeOf}
 use Rattle.fra.specs.Rules.{Rules}
@@ -30,8 +31,8 @@ use Rattle.table_laws.specs.Table.{positionAt}
 use Rattle.table_laws.proofs.Records.{member-place}
 use Rattle.rank_laws.specs.Levels.{level}
 use Rattle.rank_laws.specs.Rows.{rows, roundsAt}
-use Rattle.rank_laws.specs.Pairs.{pairOf, hasPair, withPair, withPairs, lostPairs, leadsInto, sources, Covers}
-use Rattle.rank_laws.proofs.Levels.{ranked-successor}
+use Rattle.rank_laws.specs.Pairs.{pairOf, hasPair, withPair, withPairs, between, lostPairs, leadsInto, sources, Covers, CoversLost}
+use Rattle.rank_laws.proofs.Levels.{level-judges, ranked-successor}
 use Rattle.rank_laws.proofs.Rows.{partly-none, partly-position, partly-rounds}
 
 -- ── Adding pairs ──
@@ -90,9 +91,24 @@ module _ (test : ℕ → Bool) (left right : ℕ → ℕ) (pairs : List ℕ) (lo
 
 -- ── Where positions were lost ──
 
-lost-has : (table : List ℕ) (k n i : ℕ) → i < n → roundsAt table i ≡ k
-    → hasPair (lostPairs table k n) (positionAt table i .left) (positionAt table i .right) ≡ true
-lost-has table k n i b e = first-have _ _ _ (replicate 256 0) (length-replicate {A = ℕ} 256 0) n i b (eq-eqb (roundsAt table i) k e)
+-- in a table of rows, the states of a position with rounds between two numbers are among those found
+module _ (f : Position → ℕ) (l : List Position) (six : (p : Position) → p ∈ l → length (p .partners) ≡ 6) (n : ℕ) {table : List ℕ} (rest : List ℕ)
+    (counted : n ≡ length l)
+    (e : table ≡ rows f l ++ rest)
+  where
+    lost-have : (from below : ℕ) (q : Position) → q ∈ l → from ≤ f q → f q < below → below ≤ allOnes
+        → hasPair (lostPairs table from below n) (q .left) (q .right) ≡ true
+    lost-have from below q m a b c =
+        let (j, d, u) = member-place q m in
+        let v : f (getD l j q) ≡ f q = rw u in
+        let small : f (getD l j q) < 2 ^ 32 = omega arith in
+        let place : positionAt table j ≡ q = rw (e, ← partly-none f f l rest) (partly-position f f l rest six 0 j q d ∙ u) in
+        let rounds : roundsAt table j ≡ f q =
+        rw (e, ← partly-none f f l rest) (⊎-elim (λ r. r ∙ v) (λ r. r ∙ v) (partly-rounds f f l rest six 0 j q d small small)) in
+        let inside : between from below (roundsAt table j) ≡ true = rw rounds (and-intro _ _ (le-leb from (f q) a) (lt-ltb (f q) below b)) in
+        let found : hasPair (lostPairs table from below n) (positionAt table j .left) (positionAt table j .right) ≡ true =
+        first-have _ _ _ (replicate 256 0) (length-replicate {A = ℕ} 256 0) n j (omega arith) inside in
+        rw place at found
 
 -- ── From where rounds lead there ──
 
@@ -124,21 +140,21 @@ module _ {r : ℕ} {t : Task} (valid : Valid r t) (g : Rules) (s : Side) (attack
       (sources-have (t .left) (t .right) lost (t .left .«edge_count») i j (x .exists) (x .other-exists)
       (and-intro _ _ (eq-eqb _ _ (sym (x .tag))) (rw e at h)))
 
-  -- after a pass that is not pass 0, the sources of what it marked are all that the next pass has to look at
-  pub covers-next : (k n : ℕ) {table : List ℕ} (rest : List ℕ) → 1 ≤ k → suc k < allOnes
-      → ((p : Position) → p ∈ reached g t → length (p .partners) ≡ 6)
-      → n ≡ length (reached g t)
-      → table ≡ rows (level g t k) (reached g t) ++ rest
-      → Covers g t (suc k) (sources (t .left) (t .right) (lostPairs table k n) (t .left .«edge_count»))
-  covers-next k n {table} rest a b six counted e p m h =
-      let l = reached g t in
-      let f = level g t k in
-      let (q, d, i) = ranked-successor g t k p a b h in
-      let (j, c, u) = member-place q (reached-successor valid g p q m d) in
-      let v : f (getD l j q) ≡ k = rw u (eqb-true (f q) k i) in
-      let small : f (getD l j q) < 2 ^ 32 = omega arith in
-      let place : positionAt table j ≡ q = rw (e, ← partly-none f f l rest) (partly-position f f l rest six 0 j q c ∙ u) in
-      let rounds : roundsAt table j ≡ k =
-      rw (e, ← partly-none f f l rest) (⊎-elim (λ r. r ∙ v) (λ r. r ∙ v) (partly-rounds f f l rest six 0 j q c small small)) in
-      sources-lead (lostPairs table k n) p q (reached-legal valid g p m) d
-      (rw place at (lost-has table k n j (omega arith) rounds))
+  module _ (k n : ℕ) {table : List ℕ} (rest : List ℕ) (small : suc k < allOnes)
+      (six : (p : Position) → p ∈ reached g t → length (p .partners) ≡ 6)
+      (counted : n ≡ length (reached g t))
+      (e : table ≡ rows (level g t k) (reached g t) ++ rest)
+    where
+      -- after pass k, the states of what has k rounds or fewer are all with which a position is lost
+      pub covers-lost : CoversLost g t k (lostPairs table 0 (suc k) n)
+      covers-lost p m h =
+          let within = ltb-true (level g t k p) (suc k) (level-judges g t k k p (omega arith) (omega arith) ∙ h) in
+          lost-have (level g t k) (reached g t) six n rest counted e 0 (suc k) p m (omega arith) within (omega arith)
+
+      -- after a pass that is not pass 0, the sources of what it marked are all that the next pass has to look at
+      pub covers-next : 1 ≤ k → Covers g t (suc k) (sources (t .left) (t .right) (lostPairs table k (suc k) n) (t .left .«edge_count»))
+      covers-next a p m h =
+          let (q, d, i) = ranked-successor g t k p a small h in
+          let rounds : level g t k q ≡ k = eqb-true (level g t k q) k i in
+          sources-lead (lostPairs table k (suc k) n) p q (reached-legal valid g p m) d
+          (lost-have (level g t k) (reached g t) six n rest counted e k (suc k) q (reached-successor valid g p q m d) (omega arith) (omega arith) (omega arith))

@@ -5,10 +5,11 @@ use mathlib.Core.Path.{_≡_}
 use mathlib.Core.Bool.{Bool, true, not, cond, _&&_}
 use mathlib.Core.List.{List}
 use lib.ListN.{getD, set, replicate}
-use lib.Dec.{eqb}
+use lib.Dec.{eqb, leb, ltb}
 use Rattle.fra.specs.Lists.{_∈_}
 use Rattle.fra.specs.Model.{edgeOf}
 use Rattle.fra.specs.Rules.{Rules}
+use Rattle.fra.specs.Game.{lostWithin}
 use Rattle.fra.specs.Reach.{reached}
 use Rattle.fra.specs.declared.Edge.{Edge}
 use Rattle.fra.specs.declared.Model.{Model}
@@ -36,10 +37,14 @@ withPairs test left right pairs zero = pairs
 withPairs test left right pairs (suc n) =
     cond (test n) (withPair (withPairs test left right pairs n) (left n) (right n)) (withPairs test left right pairs n)
 
--- the states of the positions of the first n entries that have k rounds
-abbrev pub lostPairs : List ℕ → ℕ → ℕ → List ℕ
-lostPairs table k n =
-    withPairs (λ i. eqb (roundsAt table i) k) (λ i. positionAt table i .left) (λ i. positionAt table i .right) (replicate 256 0) n
+-- the rounds are not fewer than the first number, and fewer than the second
+abbrev pub between : ℕ → ℕ → ℕ → Bool
+between from below rounds = leb from rounds && ltb rounds below
+
+-- the states of the positions of the first n entries that have rounds between these numbers
+abbrev pub lostPairs : List ℕ → ℕ → ℕ → ℕ → List ℕ
+lostPairs table from below n =
+    withPairs (λ i. between from below (roundsAt table i)) (λ i. positionAt table i .left) (λ i. positionAt table i .right) (replicate 256 0) n
 
 -- the two edges have one tag, and lead to a pair of the set
 abbrev pub leadsInto : List ℕ → Edge → Edge → Bool
@@ -60,3 +65,8 @@ sources left right lost (suc n) =
 abbrev pub Covers : Rules → Task → ℕ → List ℕ → Type 0
 Covers g t k pairs =
     (p : Position) → p ∈ reached g t → ranked g t k p ≡ true → hasPair pairs (p .left) (p .right) ≡ true
+
+-- the set has the states of every position reached that is lost within k rounds
+abbrev pub CoversLost : Rules → Task → ℕ → List ℕ → Type 0
+CoversLost g t k pairs =
+    (p : Position) → p ∈ reached g t → lostWithin g t k p ≡ true → hasPair pairs (p .left) (p .right) ≡ true

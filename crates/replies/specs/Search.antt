@@ -18,6 +18,8 @@ use Rattle.moves.specs.declared.rounds.Target.{Target}
 use Rattle.replies.specs.Fan.{candidateAt}
 use Rattle.replies.specs.declared.search.Challenge.{Challenge}
 use Rattle.replies.specs.declared.search.Reply.the-variants.{To, Missing}
+use Rattle.replies.specs.declared.search.Answering.{Answering}
+use Rattle.replies.specs.declared.search.Answering.the-variants.{At, NoMore}
 use Rattle.replies.specs.declared.search.Found.{Found}
 
 -- what an attack says
@@ -45,6 +47,15 @@ unfoldable pub afterReply : Challenge → Target → Position
 afterReply c reply = movedTo (c .position) (leftOf (c .side) (c .target) reply) (rightOf (c .side) (c .target) reply)
 
 -- a place of the fan that was found, as the answer
+abbrev pub answerAt : Option ℕ → Answering
+answerAt none = NoMore
+answerAt (some i) = At i
+
+-- the place of the first candidate that answers, from place i on, below place n
+unfoldable pub answerFrom : List ℕ → ℕ → ℕ → Challenge → Answering
+answerFrom bytes n i c = answerAt (least (λ j. isAnswer c (candidateAt bytes j .kind)) i (n - i))
+
+-- the same, with where the reply leads
 unfoldable pub replyAnswer : List ℕ → ℕ → Challenge → Option ℕ → Found
 replyAnswer bytes n c none = record { reply = Missing; position = c .position; next = n }
 replyAnswer bytes n c (some i) =

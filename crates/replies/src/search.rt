@@ -11,7 +11,7 @@ ghost use mathlib.Core.Path.{_≡_};
 ghost use mathlib.Core.Bool.{cond};
 ghost use Rattle.fra.specs.Model.{isLocallyFresh, isFresh};
 ghost use Rattle.fra.specs.Game.{answers};
-ghost use Rattle.replies.specs.Search.{afterReply, replyFrom};
+ghost use Rattle.replies.specs.Search.{afterReply, answerFrom, replyFrom};
 
 // What an attack says: where its edge leads, the partner of that edge's register, and the id case.
 pub struct Challenge {
@@ -26,6 +26,12 @@ pub struct Challenge {
 pub enum Reply {
     To(u8),
     Missing,
+}
+
+// The place of a candidate that answers; or there is none from there on.
+pub enum Answering {
+    At(usize),
+    NoMore,
 }
 
 // The answer of a search, with the position after the reply and the place of the fan to go on from. Where the reply is
@@ -66,7 +72,7 @@ fn answers(partner: u8, case: IdCase, kind: EdgeKind) -> bool
 }
 
 // The position after a reply that leads there.
-fn after_reply(challenge: Challenge, reply: Target) -> Position
+pub fn after_reply(challenge: Challenge, reply: Target) -> Position
     ensures { λ r. ⌜ r ≡ afterReply challenge reply ⌝ }
 {
     let p = challenge.position;
@@ -78,9 +84,14 @@ fn after_reply(challenge: Challenge, reply: Target) -> Position
     }
 }
 
-// The first reply to the challenge among the candidates of a fan from place `from` on, of which there are `count`.
-pub fn next_reply(fan: &[u8; fan::SIZE], count: usize, from: usize, challenge: Challenge) -> Found
-    ensures { λ r. ⌜ r ≡ replyFrom (now (fan .entry)) count from challenge ⌝ }
+// The place of the first candidate that answers the challenge, of those of a fan from place `from` on, below place `count`.
+pub fn next_answer(
+    fan: &[u8; fan::SIZE],
+    count: usize,
+    from: usize,
+    challenge: Challenge,
+) -> Answering
+    ensures { λ r. ⌜ r ≡ answerFrom (now (fan .entry)) count from challenge ⌝ }
 {
     let case = challenge.case;
     let mut n = from;
@@ -88,22 +99,34 @@ pub fn next_reply(fan: &[u8; fan::SIZE], count: usize, from: usize, challenge: C
         let c = fan::candidate_at(fan, n);
         let kind = c.kind;
         if answers(challenge.partner, case, kind) {
-            let target = c.target;
-            let reply = Reply::To(target.state);
-            let position = after_reply(challenge, target);
-            return Found {
-                reply,
-                position,
-                next: n + 1,
-            };
+            return Answering::At(n);
         }
         n += 1;
     }
-    let position = challenge.position;
-    let reply = Reply::Missing;
+    Answering::NoMore
+}
+
+// The first reply to the challenge among the candidates of a fan from place `from` on, of which there are `count`.
+pub fn next_reply(fan: &[u8; fan::SIZE], count: usize, from: usize, challenge: Challenge) -> Found
+    ensures { λ r. ⌜ r ≡ replyFrom (now (fan .entry)) count from challenge ⌝ }
+{
+    let answer = next_answer(fan, count, from, challenge);
+    let Answering::At(n) = answer else {
+        let position = challenge.position;
+        let reply = Reply::Missing;
+        return Found {
+            reply,
+            position,
+            next: count,
+        };
+    };
+    let c = fan::candidate_at(fan, n);
+    let target = c.target;
+    let reply = Reply::To(target.state);
+    let position = after_reply(challenge, target);
     Found {
         reply,
         position,
-        next: count,
+        next: n + 1,
     }
 }

@@ -6,6 +6,7 @@ use mathlib.Core.Bool.{Bool, true, _&&_}
 use mathlib.Core.List.{List, [], _∷_, map}
 use mathlib.Core.Option.{Option, none, some}
 use native.Mathlib.Nat.{zero-add, add-zero, sub-zero}
+use native.Mathlib.Numerals.{add-one}
 use native.Mathlib.Omega.{arith}
 use lib.ListN.{length, getD, drop}
 use Rattle.fra.specs.Lists.{all, count, least}
@@ -17,9 +18,11 @@ use Rattle.fra.specs.declared.Attack.{Attack}
 use Rattle.moves.proofs.Lists.{keep-map}
 use Rattle.moves.proofs.Searches.{least-same, test, KeptFrom, kept-from}
 use Rattle.replies.specs.Fan.{candidateFor, candidateOf, candidateAt}
-use Rattle.replies.specs.Search.{challengeOf, isAnswer, afterReply, replyAnswer, replyFrom}
+use Rattle.replies.specs.Search.{challengeOf, isAnswer, afterReply, answerAt, answerFrom, replyAnswer, replyFrom}
 use Rattle.replies.specs.declared.fan.Candidate.{Candidate}
 use Rattle.replies.specs.declared.search.Challenge.{Challenge}
+use Rattle.replies.specs.declared.search.Answering.{Answering}
+use Rattle.replies.specs.declared.search.Answering.the-variants.{At, NoMore}
 use Rattle.replies.specs.declared.search.Reply.the-variants.{To, Missing}
 use Rattle.replies.specs.declared.search.Found.{Found}
 use Rattle.replies.proofs.Replies.{answersFrom, replier, attackFan, all-replies, after-is}
@@ -68,6 +71,38 @@ module _ (bytes : List ℕ) (n : ℕ) (c : Challenge) where
       ) at
       (kept-from answers whole none-there i)
 
+  -- the first place from place i on at which a candidate answers, and those that follow
+  module _ (i : ℕ) where
+    abbrev place : Option ℕ
+    place = least (λ j. isAnswer c (candidateAt bytes j .kind)) i (n - i)
+
+    place-first : (j : ℕ) → place ≡ some j → (j < n) × (answersAt i ≡ candidateAt bytes j ∷ answersAt (suc j))
+    place-first j e =
+        let (below, first) = rw e at (answers-kept i) in
+        let inside : j < n = omega (arith, places-length (candidateAt bytes) n) in
+        (inside, rw (from-place i, from-place (suc j), ← candidates-at j inside) first)
+
+    place-none : place ≡ none → answersAt i ≡ []
+    place-none e = rw (from-place i) (rw e at (answers-kept i))
+
+    -- a search that found a place
+    module _ {a : Answering} (found : a ≡ answerFrom bytes n i c) where
+      pub answer-first : (j : ℕ) → a ≡ At j → (j < n) × (answersAt i ≡ candidateAt bytes j ∷ answersAt (j + 1))
+      unfolding answerFrom
+      answer-first j e = rw add-one (place-first j (step place (sym found ∙ e)))
+        where
+          step : (o : Option ℕ) → answerAt o ≡ At j → o ≡ some j
+          step none d = let z : _≡_ {A = ℕ} 0 1 = cc in absurd (omega arith)
+          step (some k) d = let s : k ≡ j = cc in rw s
+
+      pub answer-none : a ≡ NoMore → answersAt i ≡ []
+      unfolding answerFrom
+      answer-none e = place-none (step place (sym found ∙ e))
+        where
+          step : (o : Option ℕ) → answerAt o ≡ NoMore → o ≡ none
+          step none d = refl
+          step (some k) d = let z : _≡_ {A = ℕ} 0 1 = cc in absurd (omega arith)
+
   -- a search that found a reply: the first candidate that answers, where it leads, and those that follow
   pub record NextAnswer (i : ℕ) (f : Found) : Type 0 where
     pub candidate : Candidate
@@ -75,14 +110,11 @@ module _ (bytes : List ℕ) (n : ℕ) (c : Challenge) where
     pub first : answersAt i ≡ candidate ∷ answersAt (f .next)
 
   module _ (i : ℕ) (f : Found) (e : f ≡ replyFrom bytes n i c) where
-    abbrev place : Option ℕ
-    place = least (λ j. isAnswer c (candidateAt bytes j .kind)) i (n - i)
-
     pub answer-found : (q : ℕ) → f .reply ≡ To q → NextAnswer i f
     unfolding replyFrom replyAnswer
-    answer-found q r = step place (answers-kept i) e
+    answer-found q r = step (place i) refl e
       where
-        step : (o : Option ℕ) → KeptFrom answers whole none-there i o → f ≡ replyAnswer bytes n c o → NextAnswer i f
+        step : (o : Option ℕ) → place i ≡ o → f ≡ replyAnswer bytes n c o → NextAnswer i f
         step none k d =
             let m : Missing ≡ To q = ap (λ (f : Found). f .reply) (sym d) ∙ r in
             let z : _≡_ {A = ℕ} 0 1 = cc in
@@ -91,18 +123,16 @@ module _ (bytes : List ℕ) (n : ℕ) (c : Challenge) where
             record {
               candidate = candidateAt bytes j;
               position = ap (λ (f : Found). f .position) d;
-              first =
-                  rw (ap (λ (f : Found). f .next) d, from-place i, from-place (suc j), ← candidates-at j (omega (arith, k .0, places-length (candidateAt bytes) n)))
-                  (k .1);
+              first = rw (ap (λ (f : Found). f .next) d) (place-first i j k .1);
             }
 
     -- and no reply: none is left
     pub answer-missing : f .reply ≡ Missing → answersAt i ≡ []
     unfolding replyFrom replyAnswer
-    answer-missing r = step place (answers-kept i) e
+    answer-missing r = step (place i) refl e
       where
-        step : (o : Option ℕ) → KeptFrom answers whole none-there i o → f ≡ replyAnswer bytes n c o → answersAt i ≡ []
-        step none k d = rw (from-place i) k
+        step : (o : Option ℕ) → place i ≡ o → f ≡ replyAnswer bytes n c o → answersAt i ≡ []
+        step none k d = place-none i k
         step (some j) k d =
             let m : To (candidateAt bytes j .target .state) ≡ Missing = ap (λ (f : Found). f .reply) (sym d) ∙ r in
             let z : _≡_ {A = ℕ} 0 1 = cc in
@@ -117,9 +147,10 @@ module _ (bytes : List ℕ) (n : ℕ) (c : Challenge) where
     unfolding settles all
     settles-none e = rw e
 
-    pub settles-next : {f : Found} → NextAnswer i f → left i ≡ lost (f .position) && left (f .next)
+    pub settles-next : {x : Candidate} (j : ℕ) → answersAt i ≡ x ∷ answersAt j
+        → left i ≡ lost (afterReply c (x .target)) && left j
     unfolding settles all
-    settles-next h = rw (h .first, h .position)
+    settles-next j e = rw e
 
 -- ── What it says of an attack ──
 

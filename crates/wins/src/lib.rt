@@ -1,5 +1,5 @@
 // The first attack of a position that wins, as far as the table judges the positions that replies lead to. The task is
-// given by its index: left edges, right edges, states.
+// given by its index: left edges, right edges, states. `losing` are the pairs of states whose positions the table is asked for.
 use attacks::in_case;
 use attacks::state_of;
 use fra::Attack;
@@ -11,10 +11,11 @@ use index::Range;
 use moves::cases;
 use moves::cases::CaseFound;
 use moves::registers::other;
+use moves::rounds::Target;
 use replies::fan;
 use replies::search;
+use replies::search::Answering;
 use replies::search::Challenge;
-use replies::search::Reply;
 use table::Place;
 ghost use Prim.Native.Nat.{_<_};
 ghost use mathlib.Core.Path.{_≡_};
@@ -22,7 +23,9 @@ ghost use Rattle.fra.specs.Rules.{bisimulation, leftOf, rightOf, modelOf};
 ghost use Rattle.fra.specs.declared.Task.{Task};
 ghost use Rattle.index.specs.Index.{Indexed, ForTask};
 ghost use Rattle.rank_laws.specs.Winner.{winner};
-ghost use Rattle.wins.specs.Judgement.{Searchable, lostBefore};
+ghost use Rattle.rank_laws.specs.Pairs.{hasPair};
+ghost use Rattle.replies.specs.Search.{afterReply};
+ghost use Rattle.wins.specs.Judgement.{Searchable, lostBefore, lostAmong};
 ghost use Rattle.wins.specs.Wins.{winOf, winIn, candidates, settles, caseWinner, edgeWinner, sideWinner};
 
 // The answer of a search for an attack that wins.
@@ -32,7 +35,7 @@ pub enum Win {
 }
 
 // The position stands among the first n entries with fewer rounds than k.
-pub fn lost_before(table: &[u8], n: usize, q: Position, k: u32) -> bool
+fn lost_before(table: &[u8], n: usize, q: Position, k: u32) -> bool
     requires { ⌜ Searchable n (now table) ⌝ }
     ensures { λ r. ⌜ r ≡ lostBefore (now (table .entry)) n k q ⌝ }
 {
@@ -43,30 +46,62 @@ pub fn lost_before(table: &[u8], n: usize, q: Position, k: u32) -> bool
     table::word_at(table, i * 12 + 8) < k
 }
 
+// A reply that leads there leads to a pair of states of the set.
+fn may_be_lost(losing: &[u8; pairs::SIZE], challenge: Challenge, reply: Target) -> bool
+    ensures { λ r. ⌜ r ≡ hasPair (now (losing .entry)) (afterReply challenge reply .left) (afterReply challenge reply .right) ⌝ }
+{
+    let side = challenge.side;
+    let own = challenge.target;
+    match side {
+        Side::Left => pairs::has(losing, own.state, reply.state),
+        Side::Right => pairs::has(losing, reply.state, own.state),
+    }
+}
+
+// A reply that leads there leads to a position lost before k. It is looked up only if its pair of states is one that has such.
+fn leads_to_lost(
+    table: &[u8],
+    n: usize,
+    losing: &[u8; pairs::SIZE],
+    k: u32,
+    challenge: Challenge,
+    reply: Target,
+) -> bool
+    requires { ⌜ Searchable n (now table) ⌝ }
+    ensures { λ r. ⌜ r ≡ lostAmong (now (losing .entry)) (now (table .entry)) n k (afterReply challenge reply) ⌝ }
+{
+    if !may_be_lost(losing, challenge, reply) {
+        return false;
+    }
+    lost_before(table, n, search::after_reply(challenge, reply), k)
+}
+
 // Every reply to the challenge, among the edges of a fan, leads to a position lost before k.
 fn settled(
     table: &[u8],
     n: usize,
+    losing: &[u8; pairs::SIZE],
     k: u32,
     edges: &[u8; fan::SIZE],
     fan: Range,
     challenge: Challenge,
 ) -> bool
     requires { ⌜ Searchable n (now table) ⌝ }
-    ensures { λ r. ⌜ r ≡ settles (lostBefore (now (table .entry)) n k) challenge (candidates (now (edges .entry)) (fan .first) (fan .end)) ⌝ }
+    ensures { λ r. ⌜ r ≡ settles (lostAmong (now (losing .entry)) (now (table .entry)) n k) challenge (candidates (now (edges .entry)) (fan .first) (fan .end)) ⌝ }
 {
     let end = fan.end;
     let mut at = fan.first;
     loop {
-        let found = search::next_reply(edges, end, at, challenge);
-        let reply = found.reply;
-        let Reply::To(_) = reply else {
+        let answer = search::next_answer(edges, end, at, challenge);
+        let Answering::At(i) = answer else {
             return true;
         };
-        if !lost_before(table, n, found.position, k) {
+        let c = fan::candidate_at(edges, i);
+        let target = c.target;
+        if !leads_to_lost(table, n, losing, k, challenge, target) {
             return false;
         }
-        at = found.next;
+        at = i + 1;
     }
 }
 
@@ -75,6 +110,7 @@ fn settled(
 fn case_win(
     table: &[u8],
     n: usize,
+    losing: &[u8; pairs::SIZE],
     k: u32,
     edges: &[u8; fan::SIZE],
     fan: Range,
@@ -84,7 +120,7 @@ fn case_win(
     e: u8,
 ) -> Win
     requires { ⌜ Searchable n (now table) ⌝ }
-    ensures { λ r. ⌜ r ≡ winIn challenge e (caseWinner (lostBefore (now (table .entry)) n k) (candidates (now (edges .entry)) (fan .first) (fan .end)) challenge kind others 0) ⌝ }
+    ensures { λ r. ⌜ r ≡ winIn challenge e (caseWinner (lostAmong (now (losing .entry)) (now (table .entry)) n k) (candidates (now (edges .entry)) (fan .first) (fan .end)) challenge kind others 0) ⌝ }
 {
     let p = challenge.position;
     let side = challenge.side;
@@ -94,7 +130,7 @@ fn case_win(
         let CaseFound::At(case, next) = found else {
             return Win::Nobody;
         };
-        if settled(table, n, k, edges, fan, in_case(challenge, case)) {
+        if settled(table, n, losing, k, edges, fan, in_case(challenge, case)) {
             return Win::By(Attack {
                 side,
                 edge: e,
@@ -109,6 +145,7 @@ fn case_win(
 fn edge_win(
     table: &[u8],
     n: usize,
+    losing: &[u8; pairs::SIZE],
     k: u32,
     own: &[u8; fan::SIZE],
     others: &[u8; fan::SIZE],
@@ -118,7 +155,7 @@ fn edge_win(
     e: usize,
 ) -> Win
     requires { ⌜ Searchable n (now table) ⌝ }
-    ensures { λ r. ⌜ ((t : Task) → Indexed t (leftOf side (now (own .entry)) (now (others .entry))) (rightOf side (now (own .entry)) (now (others .entry))) (now (states .entry)) → e < modelOf t side .«edge_count» → r ≡ winOf (edgeWinner t (lostBefore (now (table .entry)) n k) p side e)) ⌝ }
+    ensures { λ r. ⌜ ((t : Task) → Indexed t (leftOf side (now (own .entry)) (now (others .entry))) (rightOf side (now (own .entry)) (now (others .entry))) (now (states .entry)) → e < modelOf t side .«edge_count» → r ≡ winOf (edgeWinner t (lostAmong (now (losing .entry)) (now (table .entry)) n k) p side e)) ⌝ }
 {
     let c = fan::candidate_at(own, e);
     let kind = c.kind;
@@ -129,6 +166,7 @@ fn edge_win(
     case_win(
         table,
         n,
+        losing,
         k,
         others,
         fan,
@@ -143,6 +181,7 @@ fn edge_win(
 fn side_win(
     table: &[u8],
     n: usize,
+    losing: &[u8; pairs::SIZE],
     k: u32,
     own: &[u8; fan::SIZE],
     others: &[u8; fan::SIZE],
@@ -151,13 +190,13 @@ fn side_win(
     side: Side,
 ) -> Win
     requires { ⌜ Searchable n (now table) ⌝ }
-    ensures { λ r. ⌜ ForTask (leftOf side (now (own .entry)) (now (others .entry))) (rightOf side (now (own .entry)) (now (others .entry))) (now (states .entry)) r (λ t. winOf (sideWinner t (lostBefore (now (table .entry)) n k) p side)) ⌝ }
+    ensures { λ r. ⌜ ForTask (leftOf side (now (own .entry)) (now (others .entry))) (rightOf side (now (own .entry)) (now (others .entry))) (now (states .entry)) r (λ t. winOf (sideWinner t (lostAmong (now (losing .entry)) (now (table .entry)) n k) p side)) ⌝ }
 {
     let edges = index::edges_of(states, side, state_of(p, side));
     let end = edges.end;
     let mut e = edges.first;
     while e < end {
-        let win = edge_win(table, n, k, own, others, states, p, side, e);
+        let win = edge_win(table, n, losing, k, own, others, states, p, side, e);
         if let Win::By(a) = win {
             return Win::By(a);
         }
@@ -170,6 +209,7 @@ fn side_win(
 pub fn first_win(
     table: &[u8],
     n: usize,
+    losing: &[u8; pairs::SIZE],
     left: &[u8; fan::SIZE],
     right: &[u8; fan::SIZE],
     states: &[u8; index::STATES],
@@ -177,11 +217,11 @@ pub fn first_win(
     k: u32,
 ) -> Win
     requires { ⌜ Searchable n (now table) ⌝ }
-    ensures { λ r. ⌜ ForTask (now (left .entry)) (now (right .entry)) (now (states .entry)) r (λ t. winOf (winner bisimulation t (lostBefore (now (table .entry)) n k) p)) ⌝ }
+    ensures { λ r. ⌜ ForTask (now (left .entry)) (now (right .entry)) (now (states .entry)) r (λ t. winOf (winner bisimulation t (lostAmong (now (losing .entry)) (now (table .entry)) n k) p)) ⌝ }
 {
-    let win = side_win(table, n, k, left, right, states, p, Side::Left);
+    let win = side_win(table, n, losing, k, left, right, states, p, Side::Left);
     if let Win::By(a) = win {
         return Win::By(a);
     }
-    side_win(table, n, k, right, left, states, p, Side::Right)
+    side_win(table, n, losing, k, right, left, states, p, Side::Right)
 }

@@ -1,20 +1,19 @@
 -- `pairs::lost_pairs` meets its contract. The loop's invariant: the pairs of the entries before `i` are in the set. Assumes nothing.
 use Prim.Native.Nat.{_-_, _≤_}
-use mathlib.Core.Path.{_≡_, refl, sym, _∙_}
+use mathlib.Core.Path.{_≡_, refl, _∙_}
 use mathlib.Core.Logic.{⊎-elim}
 use native.Mathlib.Numerals.{add-one}
 use native.Mathlib.Omega.{arith}
 use borrow.Author.Needs.{needs}
-use borrow.Author.Tests.{eq-eqb, ne-eqb}
 use Rattle.rank_laws.specs.Pairs.{withPairs, lostPairs}
 use Rattle.pairs.proofs.lost_pairs.Statement.{statement}
 use Rattle.pairs.proofs.lost_pairs.Tie as tie
 
 abbrev Inv-loop : tie.InvT-loop
-Inv-loop table n k lost₀ i₀ lost i = (i ≤ n) × (lost ≡ lostPairs table k i)
+Inv-loop table n from below lost₀ i₀ lost i = (i ≤ n) × (lost ≡ lostPairs table from below i)
 
 abbrev μ-loop : tie.MeasureT-loop
-μ-loop table n k lost₀ i₀ lost i = n - i
+μ-loop table n from below lost₀ i₀ lost i = n - i
 
 loop-holds : tie.Need-loop-holds Inv-loop μ-loop
 unfolding withPairs
@@ -32,6 +31,9 @@ word-at-requires c κs = search needs
 position-at-requires : tie.Need-position-at-requires Inv-loop μ-loop
 position-at-requires c κs = search needs
 
+between-requires : tie.Need-between-requires Inv-loop μ-loop
+between-requires c κs = search needs
+
 add-requires : tie.Need-add-requires Inv-loop μ-loop
 add-requires c κs = search needs
 
@@ -44,15 +46,13 @@ loop-less c = search needs
 loop-again : tie.Need-loop-again Inv-loop μ-loop
 unfolding withPairs
 loop-again c =
-    let read = c .before in
-    let rest = read .before .before .loop .inv .1 in (
+    let tested = c .before in
+    let rest = tested .before .before .before .loop .inv .1 in
+    let inside = rw (tested .before .word-at .ensures) at (tested .between .ensures) in (
       search needs,
       ⊎-elim
-          (λ w.
-          w .4
-          ∙ w .3 .ensures
-          ∙ rw (add-one, eq-eqb _ _ (sym (read .word-at .ensures) ∙ w .0 .taken), rest, w .1 .ensures))
-          (λ w. w .1 ∙ rw (add-one, ne-eqb _ _ (λ e. w .0 .left (read .word-at .ensures ∙ e))) rest)
+          (λ w. w .4 ∙ w .3 .ensures ∙ rw (add-one, ← inside, w .0 .taken, rest, w .1 .ensures))
+          (λ w. w .1 ∙ rw (add-one, ← inside, w .0 .left) rest)
           (c .if1 .came),
     )
 
@@ -72,6 +72,7 @@ lost-pairs-spec =
     mul-word-at
     add-word-at
     word-at-requires
+    between-requires
     position-at-requires
     add-requires
     add-i

@@ -13,13 +13,13 @@ use Rattle.rank.proofs.mark.Tie as tie
 searched : (c : tie.After-first-win) (t : Task)
     → let a = c .before .before .before .before .before .before .before .before .before .before .args in
     Indexed t (a .left .now) (a .right .now) (a .states .now)
-    → gains (a .table .now) (a .n) t (a .k) (a .worth .now) (a .i) ≡ isWin (c .first-win .result)
+    → gains (a .table .now) (a .n) (a .losing .now) t (a .k) (a .worth .now) (a .i) ≡ isWin (c .first-win .result)
 searched c t h =
     let never = c .before .before in
     let seen = never .before .before .before in
     let placed = seen .before .before in
     let a = placed .before .before .before .args in
-    gains-by (a .table .now) (a .n) t (a .k) (a .worth .now) (a .i) (placed .position-at .ensures) (c .first-win .ensures t h)
+    gains-by (a .table .now) (a .n) (a .losing .now) t (a .k) (a .worth .now) (a .i) (placed .position-at .ensures) (c .first-win .ensures t h)
     (sym (never .before .word-at .ensures) ∙ never .if2 .left)
     (sym (seen .before .has .ensures) ∙ not-false _ (seen .if1 .left))
 
@@ -38,7 +38,7 @@ returns c =
     let a = placed .before .before .before .args in (
       λ t h.
           sym
-          (gains-unseen (a .table .now) (a .n) t (a .k) (a .worth .now) (a .i) (placed .position-at .ensures)
+          (gains-unseen (a .table .now) (a .n) (a .losing .now) t (a .k) (a .worth .now) (a .i) (placed .position-at .ensures)
           (sym (c .before .has .ensures) ∙ not-true _ (c .if1 .taken))),
       refl,
     )
@@ -62,7 +62,7 @@ returns-2 c =
     let a = placed .before .before .before .args in (
       λ t h.
           sym
-          (gains-nothing (a .table .now) (a .n) t (a .k) (a .worth .now) (a .i) (placed .position-at .ensures)
+          (gains-nothing (a .table .now) (a .n) (a .losing .now) t (a .k) (a .worth .now) (a .i) (placed .position-at .ensures)
           (λ e. c .if2 .taken (c .before .word-at .ensures ∙ e))
           (sym (seen .before .has .ensures) ∙ not-false _ (seen .if1 .left))),
       refl,

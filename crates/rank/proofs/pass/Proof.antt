@@ -21,11 +21,11 @@ use Rattle.rank.proofs.pass.Statement.{statement}
 use Rattle.rank.proofs.pass.Tie as tie
 
 abbrev Inv-loop : tie.InvT-loop
-Inv-loop table₀ n left right states k worth marked₀ i₀ table marked i =
+Inv-loop table₀ n losing left right states k worth marked₀ i₀ table marked i =
     (i ≤ n)
     × (length table ≡ length table₀)
     × Searchable n table
-    × ((t : Task) → Indexed t left right states → Ready t k n table₀ worth
+    × ((t : Task) → Indexed t left right states → Ready t k n table₀ losing worth
     → (
     table
     ≡ partly (level bisimulation t k) (level bisimulation t (k - 1)) (reached bisimulation t) (drop (n * 12) table₀) i
@@ -33,7 +33,7 @@ Inv-loop table₀ n left right states k worth marked₀ i₀ table marked i =
     × (any (ranked bisimulation t k) (reached bisimulation t) ≡ marked || any (ranked bisimulation t k) (drop i (reached bisimulation t))))
 
 abbrev μ-loop : tie.MeasureT-loop
-μ-loop table₀ n left right states k worth marked₀ i₀ table marked i = n - i
+μ-loop table₀ n losing left right states k worth marked₀ i₀ table marked i = n - i
 
 loop-holds : tie.Need-loop-holds Inv-loop μ-loop
 loop-holds c =
@@ -73,10 +73,14 @@ loop-again c =
           let found = gained
           ∙ pass-gains (h .states .valid) _ (a .n) (a .k) (at .loop .i) (t .start) counted (ready .least) (ready .small) (here .loop-test .taken) same
           _
+          (ready .covers-lost)
+          _
           (ready .covers) in (
             (rw gained at (marked .mark .ensures .1))
                 ∙ pass-next (h .states .valid) _ (a .n) (a .k) (at .loop .i) (t .start) counted (ready .least) (ready .small) (here .loop-test .taken)
                 same
+                _
+                (ready .covers-lost)
                 _
                 (ready .covers),
             any-next (ranked bisimulation t (a .k)) (reached bisimulation t) (at .loop .i) (t .start) (at .loop .marked) (c .if1 .marked)

@@ -5,7 +5,7 @@ use native.Mathlib.Omega.{arith}
 use lib.ListN.{length}
 use borrow.Author.Needs.{needs}
 use Rattle.moves.proofs.IdCases.{casesFrom, NextCase, case-found, no-case}
-use Rattle.wins.specs.Judgement.{lostBefore}
+use Rattle.wins.specs.Judgement.{lostAmong}
 use Rattle.wins.specs.Wins.{candidates, settles, caseWinner}
 use Rattle.replies.specs.Search.{inCase}
 use Rattle.wins.proofs.Winning.{no-case-wins, case-wins, case-fails}
@@ -13,12 +13,12 @@ use Rattle.wins.proofs.case_win.Statement.{statement}
 use Rattle.wins.proofs.case_win.Tie as tie
 
 abbrev Inv-loop : tie.InvT-loop
-Inv-loop table n k edges fan challenge kind others e p side from₀ from =
-    caseWinner (lostBefore table n k) (candidates edges (fan .first) (fan .end)) challenge kind others 0
-    ≡ caseWinner (lostBefore table n k) (candidates edges (fan .first) (fan .end)) challenge kind others from
+Inv-loop table n losing k edges fan challenge kind others e p side from₀ from =
+    caseWinner (lostAmong losing table n k) (candidates edges (fan .first) (fan .end)) challenge kind others 0
+    ≡ caseWinner (lostAmong losing table n k) (candidates edges (fan .first) (fan .end)) challenge kind others from
 
 abbrev μ-loop : tie.MeasureT-loop
-μ-loop table n k edges fan challenge kind others e p side from₀ from = length (casesFrom others p side kind from)
+μ-loop table n losing k edges fan challenge kind others e p side from₀ from = length (casesFrom others p side kind from)
 
 -- the case that was found is the next one
 next : (c : tie.After-known-told Inv-loop μ-loop)
@@ -38,7 +38,7 @@ next c =
 -- whether it wins
 settled-is : (c : tie.After-settled Inv-loop μ-loop)
     → settles
-    (lostBefore (c .before .before .before .before .before .before .before .before .before .args .table .now)
+    (lostAmong (c .before .before .before .before .before .before .before .before .before .args .losing .now) (c .before .before .before .before .before .before .before .before .before .args .table .now)
     (c .before .before .before .before .before .before .before .before .before .args .n)
     (c .before .before .before .before .before .before .before .before .before .args .k))
     (inCase (c .before .before .before .before .before .before .before .before .before .args .challenge)
@@ -82,7 +82,7 @@ returns-2 c =
     let a = here .before .before .before .args in
     rw
     (here .loop .inv
-    ∙ case-wins (lostBefore (a .table .now) (a .n) (a .k)) (candidates (a .edges .now) (a .fan .first) (a .fan .end)) (a .challenge) (a .kind) (a .others)
+    ∙ case-wins (lostAmong (a .losing .now) (a .table .now) (a .n) (a .k)) (candidates (a .edges .now) (a .fan .first) (a .fan .end)) (a .challenge) (a .kind) (a .others)
     (next found)
     (settled-is (c .before) ∙ c .if1 .taken))
 
@@ -95,7 +95,7 @@ loop-again c =
     let here = found .before .before .before .before in
     let a = here .before .before .before .args in
     here .loop .inv
-    ∙ case-fails (lostBefore (a .table .now) (a .n) (a .k)) (candidates (a .edges .now) (a .fan .first) (a .fan .end)) (a .challenge) (a .kind) (a .others)
+    ∙ case-fails (lostAmong (a .losing .now) (a .table .now) (a .n) (a .k)) (candidates (a .edges .now) (a .fan .first) (a .fan .end)) (a .challenge) (a .kind) (a .others)
     (next found)
     (settled-is (c .before) ∙ c .if1 .left)
 

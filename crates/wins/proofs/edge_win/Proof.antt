@@ -8,7 +8,7 @@ use Rattle.fra_laws.proofs.Legal.{valid-side}
 use Rattle.index.specs.Index.{tagOf}
 use Rattle.index.proofs.Tables.{edge-read}
 use Rattle.index.proofs.Fans.{own-edges, others-edges, fan-read}
-use Rattle.wins.specs.Judgement.{lostBefore}
+use Rattle.wins.specs.Judgement.{lostAmong}
 use Rattle.wins.specs.Wins.{candidates}
 use Rattle.wins.proofs.Winning.{edge-by-case}
 use Rattle.wins.proofs.edge_win.Statement.{statement}
@@ -66,7 +66,7 @@ returns c = λ t h b.
       edge,
     )
     (sym
-    (edge-by-case t (lostBefore (a .table .now) (a .n) (a .k)) (a .p) (a .side) (a .e) _ valid
+    (edge-by-case t (lostAmong (a .losing .now) (a .table .now) (a .n) (a .k)) (a .p) (a .side) (a .e) _ valid
     (fan-read (valid-side valid (other (a .side))) (others-edges (a .own .now) (a .others .now) (a .side) h)
     (stateOf (a .p) (other (a .side))) (tagOf m (a .e)) (fanned .fan-of .result) fan)))
 

@@ -1,7 +1,7 @@
 -- `wins::first_win` meets its contract. Assumes nothing.
 use mathlib.Core.Path.{sym, _∙_, ap}
 use borrow.Author.Needs.{needs}
-use Rattle.wins.specs.Judgement.{lostBefore}
+use Rattle.wins.specs.Judgement.{lostAmong}
 use Rattle.wins.specs.Wins.{winOf}
 use Rattle.wins.proofs.Winning.{left-wins, left-fails}
 use Rattle.wins.proofs.first_win.Statement.{statement}
@@ -18,7 +18,7 @@ returns c = λ t h.
     let searched = c .before .before .before in
     let a = searched .before .before .args in
     sym
-    (left-wins t (lostBefore (a .table .now) (a .n) (a .k)) (a .p) (c .before .win .given .0 .0)
+    (left-wins t (lostAmong (a .losing .now) (a .table .now) (a .n) (a .k)) (a .p) (c .before .win .given .0 .0)
     (sym (searched .side-win .ensures t h) ∙ c .before .win .given .1))
 
 enum-told : tie.Need-enum-told
@@ -34,7 +34,7 @@ returns-2 c = λ t h.
     c .side-win2 .ensures t h
     ∙ ap winOf
     (sym
-    (left-fails t (lostBefore (a .table .now) (a .n) (a .k)) (a .p)
+    (left-fails t (lostAmong (a .losing .now) (a .table .now) (a .n) (a .k)) (a .p)
     (sym (searched .side-win .ensures t h) ∙ c .before .enum-told .given .1)))
 
 pub first-win-spec : {M : Type 1} → statement M

@@ -9,20 +9,20 @@ use Rattle.fra.specs.declared.Task.{Task}
 use Rattle.fra_laws.proofs.Legal.{valid-side}
 use Rattle.index.specs.Index.{Indexed}
 use Rattle.index.proofs.Fans.{starting}
-use Rattle.wins.specs.Judgement.{lostBefore}
+use Rattle.wins.specs.Judgement.{lostAmong}
 use Rattle.wins.specs.Wins.{winOf, sideWinner, rangeWinner}
 use Rattle.wins.proofs.Winning.{side-by-range, edge-wins, edge-fails, edges-end}
 use Rattle.wins.proofs.side_win.Statement.{statement}
 use Rattle.wins.proofs.side_win.Tie as tie
 
 abbrev Inv-loop : tie.InvT-loop
-Inv-loop table n k own others states p side end e₀ e =
+Inv-loop table n losing k own others states p side end e₀ e =
     (e₀ ≤ e)
     × ((t : Task) → Indexed t (leftOf side own others) (rightOf side own others) states
-    → sideWinner t (lostBefore table n k) p side ≡ rangeWinner t (lostBefore table n k) p side e end)
+    → sideWinner t (lostAmong losing table n k) p side ≡ rangeWinner t (lostAmong losing table n k) p side e end)
 
 abbrev μ-loop : tie.MeasureT-loop
-μ-loop table n k own others states p side end e₀ e = end - e
+μ-loop table n losing k own others states p side end e₀ e = end - e
 
 -- an edge of the range is one of the model
 exists : (c : tie.In-loop Inv-loop μ-loop) (t : Task)
@@ -52,7 +52,7 @@ loop-holds c =
     let a = c .before .before .before .args in (
       omega arith,
       λ t h.
-          side-by-range t (lostBefore (a .table .now) (a .n) (a .k)) (a .p) (a .side) (c .edges-of .result) (h .states .valid)
+          side-by-range t (lostAmong (a .losing .now) (a .table .now) (a .n) (a .k)) (a .p) (a .side) (c .edges-of .result) (h .states .valid)
           (rw (c .before .state-of .ensures) at (c .edges-of .ensures t (h .states))),
     )
 
@@ -70,7 +70,7 @@ returns c = λ t h.
     let (above, same) = here .before .loop .inv in
     sym
     (ap winOf (same t h)
-    ∙ edge-wins t (lostBefore (a .table .now) (a .n) (a .k)) (a .p) (a .side) (here .before .loop .e) (here .before .before .edges-of .result .end) (here .loop-test .taken)
+    ∙ edge-wins t (lostAmong (a .losing .now) (a .table .now) (a .n) (a .k)) (a .p) (a .side) (here .before .loop .e) (here .before .before .edges-of .result .end) (here .loop-test .taken)
     (c .before .win .given .0 .0)
     (sym (searched .edge-win .ensures t h (exists here t h)) ∙ c .before .win .given .1))
 
@@ -92,7 +92,7 @@ loop-again c =
       omega arith,
       λ t h.
           same t h
-          ∙ edge-fails t (lostBefore (a .table .now) (a .n) (a .k)) (a .p) (a .side) (here .before .loop .e)
+          ∙ edge-fails t (lostAmong (a .losing .now) (a .table .now) (a .n) (a .k)) (a .p) (a .side) (here .before .loop .e)
           (here .before .before .edges-of .result .end)
           (here .loop-test .taken)
           (sym (searched .edge-win .ensures t h (exists here t h)) ∙ c .enum-told .given .1),
@@ -106,7 +106,7 @@ returns-2 c = λ t h.
     sym
     (ap winOf
     (same t h
-    ∙ edges-end t (lostBefore (a .table .now) (a .n) (a .k)) (a .p) (a .side) (here .loop .e) (here .before .edges-of .result .end) (c .loop-test .left)))
+    ∙ edges-end t (lostAmong (a .losing .now) (a .table .now) (a .n) (a .k)) (a .p) (a .side) (here .loop .e) (here .before .edges-of .result .end) (c .loop-test .left)))
 
 pub side-win-spec : {M : Type 1} → statement M
 side-win-spec =

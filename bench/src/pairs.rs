@@ -5,14 +5,15 @@
 //! - Ranking goes over the positions in passes 1, 2 and so on, until a pass finds no further loss: one pass more than the
 //!   most rounds of a position that is lost. In pass k it takes the positions that are not lost in fewer than k rounds and
 //!   whose pair of states is open: from pass 2 on, a left and a right edge of one tag lead from it to the pair of states of
-//!   a position of k - 1 rounds. At each it tries attacks in order of side, edge and case, until one wins; and for an attack
-//!   its replies by edge number, until one leads to a position that is not lost in fewer than k rounds. Each reply looked at
-//!   is a pair tried.
+//!   a position of k - 1 rounds. At each it tries attacks in order of side, edge and case, until one wins, but no new number
+//!   with a locally fresh edge (what was seen before has no reply that a new number has not); and for an attack its replies
+//!   by edge number, until one leads to a position that is not lost in fewer than k rounds. Each reply looked at is a pair
+//!   tried.
 //!
 //! Pass 0, sorting and writing the certificate are not counted; they are in the time.
 use reference::compare::NEVER_LOST;
-use reference::game::{attacks, replies, Position};
-use reference::model::Task;
+use reference::game::{attacks, replies, Attack, Position, CASE_NEW};
+use reference::model::{Kind, Task};
 
 pub struct Tried {
     pub passes: u64,
@@ -93,6 +94,14 @@ impl Open {
     }
 }
 
+/// The attacks that ranking tries.
+fn ranked_attacks(task: &Task, position: &Position) -> Vec<Attack> {
+    let kind = |a: &Attack| task.model(a.side).edges[a.edge as usize].kind;
+    let mut list = attacks(task, position);
+    list.retain(|a| a.case != CASE_NEW || kind(a) == Kind::GloballyFresh);
+    list
+}
+
 pub fn tried(task: &Task, entries: &[(Position, u32)]) -> Tried {
     let rounds = Rounds::new(entries);
     let lost = entries.iter().map(|(_, n)| *n).filter(|n| *n != NEVER_LOST);
@@ -120,7 +129,7 @@ fn looked_at(task: &Task, rounds: &Rounds, open: &Open, passes: u64, position: &
     let mut sum = 0;
     // In the last pass that takes the position, attacks after the one that wins are not tried.
     let mut last = own.min(passes);
-    for attack in attacks(task, position) {
+    for attack in ranked_attacks(task, position) {
         let targets: Vec<u64> = replies(task, position, attack).iter().map(|r| rounds.get(&r.leads_to)).collect();
         sum += looked_at_in(&targets, last, |after, last| open.between(pair(position), after, last));
         if last == own && targets.iter().all(|&n| n < own) {
@@ -171,7 +180,7 @@ mod tests {
                         before.contains_key(&reply.leads_to)
                     })
                 };
-                if attacks(task, &position).into_iter().any(wins) {
+                if ranked_attacks(task, &position).into_iter().any(wins) {
                     lost.insert(position, pass);
                 }
             }

@@ -14,6 +14,9 @@ ghost use Rattle.moves.specs.Cases.{caseAt, unpartnered, hasCaseIn, case
 // How many id cases there are.
 const COUNT: u8 = Model::REGISTERS + 3;
 
+// The number of the case of a new number, which follows that of a number seen before.
+pub const NEW: u8 = Model::REGISTERS + 2;
+
 // A case of the edge, with the number of the case to go on from; or there is none from there on.
 pub enum CaseFound {
     At(IdCase, u8),

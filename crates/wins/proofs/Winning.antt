@@ -7,25 +7,29 @@ use mathlib.Core.Option.{Option, none, some, orElse}
 use native.Mathlib.Numerals.{add-one}
 use native.Mathlib.Omega.{arith}
 use lib.ListN.{length}
-use Rattle.fra.specs.Lists.{first, count}
-use Rattle.fra.specs.Model.{edgeOf}
+use Rattle.fra.specs.Lists.{keep, first, count}
+use Rattle.fra.specs.Model.{edgeOf, isLocallyFresh, isFresh}
 use Rattle.fra.specs.Rules.{bisimulation, other, modelOf}
 use Rattle.fra.specs.Position.{stateOf, filled}
-use Rattle.fra.specs.Game.{attackEdge}
+use Rattle.fra.specs.Game.{attackEdge, cases, answers}
 use Rattle.fra.specs.declared.EdgeKind.{EdgeKind}
+use Rattle.fra.specs.declared.EdgeKind.the-variants.{Known, LocallyFresh, GloballyFresh}
 use Rattle.fra.specs.declared.Position.{Position}
 use Rattle.fra.specs.declared.Task.{Task}
 use Rattle.fra.specs.declared.Side.{Side}
 use Rattle.fra.specs.declared.Side.the-variants.{Left, Right}
 use Rattle.fra.specs.declared.IdCase.{IdCase}
-use Rattle.fra.specs.declared.IdCase.the-variants.{Held}
+use Rattle.fra.specs.declared.IdCase.the-variants.{Held, Seen, New}
 use Rattle.fra.specs.declared.Attack.{Attack}
 use Rattle.fra.specs.Valid.{Valid}
+use Rattle.fra_laws.proofs.Tests.{not-both, fails-unless}
+use Rattle.fra_laws.proofs.Lists.{all-at, all-intro, keep-intro, keep-elim}
 use Rattle.fra_laws.proofs.Legal.{valid-side}
+use Rattle.moves.specs.Cases.{hasCaseIn}
 use Rattle.moves.proofs.IdCases.{casesFrom, NextCase, all-cases}
 use Rattle.moves.proofs.Attacks.{edgeAttacks, sideAttacks, attacks-by-side}
 use Rattle.replies.specs.Fan.{candidateOf}
-use Rattle.replies.specs.Search.{challengeOf, inCase}
+use Rattle.replies.specs.Search.{challengeOf, inCase, isAnswer, afterReply}
 use Rattle.replies.specs.declared.fan.Candidate.{Candidate}
 use Rattle.replies.specs.declared.search.Challenge.{Challenge}
 use Rattle.replies.proofs.Replies.{replier, attackFan}
@@ -61,6 +65,33 @@ module _ (lost : Position → Bool) (l : List Candidate) (c : Challenge) (kind :
   pub no-case-wins : (n : ℕ) → casesFrom others (c .position) (c .side) kind n ≡ [] → from n ≡ none
   unfolding caseWinner first
   no-case-wins n e = rw e
+
+  -- replies to a number seen before are replies to a new one
+  seen-settles : wins New ≡ true → wins Seen ≡ true
+  unfolding settles answers afterReply
+  seen-settles e =
+      all-intro _ _ (λ x m. let (i, s) = keep-elim (answers-in Seen) x l m in all-at _ e (keep-intro (answers-in New) i (fresh (x .kind) s)))
+    where
+      answers-in : IdCase → Candidate → Bool
+      answers-in case x = isAnswer (inCase c case) (x .kind)
+
+      fresh : (kind : EdgeKind) → isLocallyFresh kind ≡ true → isFresh kind ≡ true
+      fresh (Known i) h = h
+      fresh (LocallyFresh i) h = refl
+      fresh (GloballyFresh i) h = refl
+
+  -- so a new number, the last case, does not win where one seen before does not
+  pub seen-last : length (c .position .partners) ≡ 6 → wins Seen ≡ false → from 8 ≡ none
+  unfolding caseWinner first keep cases count
+  seen-last long h = rw long (step (hasCaseIn others (c .position) (c .side) kind New) refl)
+    where
+      fails : wins New ≡ false
+      fails = fails-unless _ (λ e. not-both _ (seen-settles e) h)
+
+      step : (b : Bool) → hasCaseIn others (c .position) (c .side) kind New ≡ b
+          → first wins (keep (hasCaseIn others (c .position) (c .side) kind) (New ∷ [])) ≡ none
+      step true e = rw (e, keep) (first-fails wins New [] fails)
+      step false e = rw (e, keep)
 
   module _ {n k : ℕ} {case : IdCase} (h : NextCase others (c .position) (c .side) kind n case k) where
     pub case-wins : wins case ≡ true → from n ≡ some case

@@ -137,6 +137,10 @@ fn case_win(
                 case,
             });
         }
+        // A number seen before has no reply that a new one has not: where the one does not win, the other does not.
+        if next == cases::NEW {
+            return Win::Nobody;
+        }
         from = next;
     }
 }

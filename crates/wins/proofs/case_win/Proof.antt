@@ -1,14 +1,16 @@
 -- `wins::case_win` meets its contract. The loop's invariant: the first case that wins is the first from number `from` on.
 -- The measure is how many cases are left. Assumes nothing.
+use Prim.Native.Nat.{_-_}
 use mathlib.Core.Path.{_≡_, refl, sym, _∙_}
 use native.Mathlib.Omega.{arith}
 use lib.ListN.{length}
 use borrow.Author.Needs.{needs}
-use Rattle.moves.proofs.IdCases.{casesFrom, NextCase, case-found, no-case}
+use Rattle.fra.specs.declared.IdCase.the-variants.{Seen}
+use Rattle.moves.proofs.IdCases.{case-seen, casesFrom, NextCase, case-found, no-case}
 use Rattle.wins.specs.Judgement.{lostAmong}
 use Rattle.wins.specs.Wins.{candidates, settles, caseWinner}
 use Rattle.replies.specs.Search.{inCase}
-use Rattle.wins.proofs.Winning.{no-case-wins, case-wins, case-fails}
+use Rattle.wins.proofs.Winning.{no-case-wins, case-wins, case-fails, seen-last}
 use Rattle.wins.proofs.case_win.Statement.{statement}
 use Rattle.wins.proofs.case_win.Tie as tie
 
@@ -19,6 +21,9 @@ Inv-loop table n losing k edges fan challenge kind others e p side from₀ from 
 
 abbrev μ-loop : tie.MeasureT-loop
 μ-loop table n losing k edges fan challenge kind others e p side from₀ from = length (casesFrom others p side kind from)
+
+six : (c : tie.Start Inv-loop μ-loop) → length (c .args .challenge .position .partners) ≡ 6
+six c = search needs
 
 -- the case that was found is the next one
 next : (c : tie.After-known-told Inv-loop μ-loop)
@@ -48,6 +53,26 @@ settled-is : (c : tie.After-settled Inv-loop μ-loop)
     (c .before .before .before .before .before .before .before .before .before .args .fan .end))
     ≡ c .settled .result
 settled-is c = rw (← c .before .in-case .ensures) (sym (c .settled .ensures))
+
+-- if it does not, the first that wins is one of those that follow
+failed : (c : tie.Else1 Inv-loop μ-loop)
+    → let a = c .before .before .before .before .before .before .before .before .before .before .args in
+    caseWinner (lostAmong (a .losing .now) (a .table .now) (a .n) (a .k)) (candidates (a .edges .now) (a .fan .first) (a .fan .end)) (a .challenge)
+    (a .kind)
+    (a .others)
+    0
+    ≡ caseWinner (lostAmong (a .losing .now) (a .table .now) (a .n) (a .k)) (candidates (a .edges .now) (a .fan .first) (a .fan .end)) (a .challenge)
+    (a .kind)
+    (a .others)
+    (c .before .before .before .before .found .given .0 .1 .0)
+failed c =
+    let found = c .before .before .before in
+    let here = found .before .before .before .before in
+    let a = here .before .before .before .args in
+    here .loop .inv
+    ∙ case-fails (lostAmong (a .losing .now) (a .table .now) (a .n) (a .k)) (candidates (a .edges .now) (a .fan .first) (a .fan .end)) (a .challenge) (a .kind) (a .others)
+    (next found)
+    (settled-is (c .before) ∙ c .if1 .left)
 
 loop-holds : tie.Need-loop-holds Inv-loop μ-loop
 loop-holds c = refl
@@ -86,18 +111,25 @@ returns-2 c =
     (next found)
     (settled-is (c .before) ∙ c .if1 .taken))
 
+returns-3 : tie.Need-returns-3 Inv-loop μ-loop
+returns-3 c =
+    let found = c .before .before .before .before in
+    let a = found .before .before .before .before .before .before .before .args in
+    let long = six (found .before .before .before .before .before .before .before) in
+    let seven : found .before .found .given .0 .1 .0 - 1 ≡ 7 = omega (arith, c .if2 .taken) in
+    let seen : found .before .found .given .0 .0 ≡ Seen = next found .numbered ∙ rw (long, seven) (case-seen 6 7 refl) in
+    let fails = rw seen at (settled-is (c .before .before) ∙ c .before .if1 .left) in
+    rw
+    (rw (c .if2 .taken) at (failed (c .before))
+    ∙ seen-last (lostAmong (a .losing .now) (a .table .now) (a .n) (a .k)) (candidates (a .edges .now) (a .fan .first) (a .fan .end)) (a .challenge) (a .kind) (a .others)
+    long
+    fails)
+
 loop-less : tie.Need-loop-less Inv-loop μ-loop
-loop-less c = rw (next (c .before .before .before) .first) (omega arith)
+loop-less c = rw (next (c .before .before .before .before) .first) (omega arith)
 
 loop-again : tie.Need-loop-again Inv-loop μ-loop
-loop-again c =
-    let found = c .before .before .before in
-    let here = found .before .before .before .before in
-    let a = here .before .before .before .args in
-    here .loop .inv
-    ∙ case-fails (lostAmong (a .losing .now) (a .table .now) (a .n) (a .k)) (candidates (a .edges .now) (a .fan .first) (a .fan .end)) (a .challenge) (a .kind) (a .others)
-    (next found)
-    (settled-is (c .before) ∙ c .if1 .left)
+loop-again c = failed (c .before)
 
 pub case-win-spec : {M : Type 1} → statement M
 case-win-spec =
@@ -113,5 +145,6 @@ case-win-spec =
     in-case-requires
     settled-requires
     returns-2
+    returns-3
     loop-less
     loop-again)

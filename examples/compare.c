@@ -1,5 +1,5 @@
-/* Prints what the program `compare` prints, for the task file named on the command line. Builds in the repository's folder,
- * after `rt staticlib exports`, with
+/* Prints what the program `compare` prints, for the task file named on the command line, and writes the certificate's bytes
+ * to a second file where one is named. Builds in the repository's folder, after `rt staticlib exports`, with
  *
  *     gcc -std=c11 -O2 -Wall -Wextra -I include examples/compare.c -L target/staticlib -lexports -o target/compare-c
  */
@@ -47,18 +47,44 @@ static void print_answer(struct nuldopa_answer answer)
         print_record(certificate + at);
 }
 
+/* After a refusal the length is 0, and so the file is empty. */
+static int write_certificate(const char *name, size_t length)
+{
+    FILE *file = fopen(name, "wb");
+    if (file == NULL)
+        return 0;
+    size_t written = fwrite(certificate, 1, length, file);
+    return fclose(file) == 0 && written == length;
+}
+
+static int cannot(const char *what, const char *name)
+{
+    fprintf(stderr, "%s cannot be %s\n", name, what);
+    return 1;
+}
+
 int main(int count, char **arguments)
 {
-    FILE *file = count == 2 ? fopen(arguments[1], "rb") : NULL;
-    if (file == NULL) {
-        fprintf(stderr, "usage: compare-c TASKFILE\n");
-        return 2;
+    if (count != 2 && count != 3) {
+        fprintf(stderr, "usage: compare-c TASKFILE [CERTIFICATEFILE]\n");
+        return 1;
     }
+    FILE *file = fopen(arguments[1], "rb");
+    if (file == NULL)
+        return cannot("read", arguments[1]);
     size_t length = fread(task, 1, sizeof task, file);
+    int unread = ferror(file);
     fclose(file);
-    if (length > TASK_BYTES)
+    if (unread)
+        return cannot("read", arguments[1]);
+    if (length > TASK_BYTES) {
         printf("TOO LONG\n");
-    else
-        print_answer(nuldopa_compare(task, length, table, sizeof table, certificate, sizeof certificate));
+        return 0;
+    }
+    struct nuldopa_answer answer =
+        nuldopa_compare(task, length, table, sizeof table, certificate, sizeof certificate);
+    print_answer(answer);
+    if (count == 3 && !write_certificate(arguments[2], answer.length))
+        return cannot("written", arguments[2]);
     return 0;
 }

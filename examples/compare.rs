@@ -1,5 +1,5 @@
-//! Prints what the program `compare` prints, for the task file named on the command line. Builds in the repository's folder,
-//! after `rt staticlib exports`, with
+//! Prints what the program `compare` prints, for the task file named on the command line, and writes the certificate's bytes
+//! to a second file where one is named. Builds in the repository's folder, after `rt staticlib exports`, with
 //!
 //!     rustc --edition 2021 -O -L target/staticlib examples/compare.rs -o target/compare-rust
 //!
@@ -9,32 +9,55 @@
 mod nuldopa;
 
 use nuldopa::{compare, records, ENTRY_LENGTH, LOST_LENGTH};
+use std::process::ExitCode;
+use std::{env, fs};
 
 const TASK_BYTES: usize = 4096;
 const ENTRIES: usize = 4000;
 
-fn print_answer(task: &[u8]) {
+/// Prints the answer and returns the certificate, which is empty after a refusal.
+fn answer(task: &[u8]) -> Vec<u8> {
     let mut table = [0; ENTRIES * ENTRY_LENGTH];
-    let mut certificate = [0; ENTRIES * LOST_LENGTH];
+    let mut certificate = vec![0; ENTRIES * LOST_LENGTH];
     match compare(task, &mut table, &mut certificate) {
-        Err(refusal) => println!("REFUSED {}", refusal.number()),
+        Err(refusal) => {
+            println!("REFUSED {}", refusal.number());
+            certificate.clear();
+        }
         Ok(found) => {
+            certificate.truncate(found.length);
             println!("{} {} {}", found.verdict, found.positions, found.rounds);
-            records(&certificate[..found.length]).for_each(|record| println!("{record}"));
+            records(&certificate).for_each(|record| println!("{record}"));
         }
     }
+    certificate
 }
 
-fn main() -> std::io::Result<()> {
-    let Some(file) = std::env::args().nth(1) else {
-        eprintln!("usage: compare-rust TASKFILE");
-        std::process::exit(2);
-    };
-    let task = std::fs::read(file)?;
+fn run(task_file: &str, certificate_file: Option<&String>) -> Result<(), String> {
+    let task = fs::read(task_file).map_err(|error| format!("{task_file} cannot be read: {error}"))?;
     if task.len() > TASK_BYTES {
         println!("TOO LONG");
-    } else {
-        print_answer(&task);
+        return Ok(());
     }
-    Ok(())
+    let certificate = answer(&task);
+    let Some(file) = certificate_file else {
+        return Ok(());
+    };
+    fs::write(file, certificate).map_err(|error| format!("{file} cannot be written: {error}"))
+}
+
+fn main() -> ExitCode {
+    let arguments: Vec<String> = env::args().skip(1).collect();
+    let outcome = match &arguments[..] {
+        [task] => run(task, None),
+        [task, certificate] => run(task, Some(certificate)),
+        _ => Err("usage: compare-rust TASKFILE [CERTIFICATEFILE]".into()),
+    };
+    match outcome {
+        Ok(()) => ExitCode::SUCCESS,
+        Err(message) => {
+            eprintln!("{message}");
+            ExitCode::FAILURE
+        }
+    }
 }

@@ -8,8 +8,11 @@
  * length says (all of which hold a value), is not null even where the length is 0, and no byte that can be written is in two
  * buffers. Who cannot be sure of that calls nuldopa_try_compare and nuldopa_try_check below, which test what can be tested.
  *
- * The functions keep no memory between calls and take none: nuldopa_compare works in the lent table. They can be called from
- * several threads at once, as long as these lend different buffers. Build: gcc program.c -L target/staticlib -lexports.
+ * The functions keep no memory between calls and take none: nuldopa_compare works in the lent table. A call needs less than
+ * 64 KB of stack (tested, not proved). They can be called from several threads at once, as long as no call is lent bytes
+ * that another one writes. Buffers need no alignment.
+ *
+ * Build, on x86-64: gcc -I include program.c -L target/staticlib -lexports. The library calls memcpy and memset alone.
  */
 #ifndef NULDOPA_H
 #define NULDOPA_H
@@ -74,8 +77,10 @@ struct nuldopa_answer {
  *
  * task         the task file's bytes; only read
  * table        where the comparison works. Each 12 bytes are an entry, spare bytes at the end make none. What it holds at
- *              entry does not matter. 12 * NULDOPA_MOST_POSITIONS bytes are enough for every task
- * certificate  where the certificate goes. 16 bytes for each table entry are enough
+ *              entry does not matter. 12 * NULDOPA_MOST_POSITIONS bytes (41 MB) are enough for every task; with less than 12
+ *              every task that is read meets 11
+ * certificate  where the certificate goes. 16 bytes for each table entry are always enough; with less than 9 every task that
+ *              has room in the table meets 12
  *
  * A verdict (refusal 0): the table holds the positions reached, rising by their 8 bytes (left state, right state, partners
  * of left registers 1 to 6), each followed by its rounds, 4 bytes, high byte first, FF FF FF FF if it is never lost; then
@@ -90,7 +95,12 @@ struct nuldopa_answer {
 struct nuldopa_answer nuldopa_compare(const uint8_t *task, size_t task_length, uint8_t *table, size_t table_length,
                                       uint8_t *certificate, size_t certificate_length);
 
-/* Checks a proposed certificate for a task, whoever wrote it. Both are only read, and may overlap.
+/* Checks a proposed certificate for a task, whoever wrote it.
+ *
+ * task         the task file's bytes
+ * certificate  the proposed certificate: of what nuldopa_compare wrote, the first `length` bytes and not the whole buffer
+ *
+ * Both are only read, and may overlap. Either may be empty: an empty task meets 2, an empty certificate 14.
  *
  * Accepted (refusal 0): the verdict that the records' kind stands for, and the start's listed rounds, 0 for EQUAL. EQUAL is
  * accepted exactly if the list is a symbolic bisimulation with the start in it; DIFFER exactly if the list contains the

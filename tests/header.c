@@ -17,6 +17,28 @@ static void expect(int holds, const char *what, int line)
 }
 #define EXPECT(condition) expect((condition) != 0, #condition, __LINE__)
 
+/* The linker puts these before the library's functions (--wrap), to see what they are given. */
+struct nuldopa_answer __real_nuldopa_compare(const uint8_t *, size_t, uint8_t *, size_t, uint8_t *, size_t);
+struct nuldopa_answer __real_nuldopa_check(const uint8_t *, size_t, const uint8_t *, size_t);
+struct nuldopa_answer __wrap_nuldopa_compare(const uint8_t *, size_t, uint8_t *, size_t, uint8_t *, size_t);
+struct nuldopa_answer __wrap_nuldopa_check(const uint8_t *, size_t, const uint8_t *, size_t);
+
+static int nulls_passed_on;
+
+struct nuldopa_answer __wrap_nuldopa_compare(const uint8_t *task, size_t task_length, uint8_t *table,
+                                             size_t table_length, uint8_t *certificate, size_t certificate_length)
+{
+    nulls_passed_on += task == NULL || table == NULL || certificate == NULL;
+    return __real_nuldopa_compare(task, task_length, table, table_length, certificate, certificate_length);
+}
+
+struct nuldopa_answer __wrap_nuldopa_check(const uint8_t *task, size_t task_length, const uint8_t *certificate,
+                                           size_t certificate_length)
+{
+    nulls_passed_on += task == NULL || certificate == NULL;
+    return __real_nuldopa_check(task, task_length, certificate, certificate_length);
+}
+
 /* Marked cases 1 and 2: P against P, and P against G, which has kind 2 at byte 39. */
 static uint8_t equal_task[] = {
     1, 1, 2, 0, 2, 0, 0, 0, 2, 1, 1, 0, 3, 0, 0, 1, 1, 1, 3, 1, 1, 0, 1, 1, /* P */
@@ -70,55 +92,107 @@ static void layout(void)
     EXPECT(offsetof(struct nuldopa_answer, length) == 16);
 }
 
-static void comparing(void)
+static void constants(void)
+{
+    EXPECT(NULDOPA_ENTRY_BYTES == sizeof equal_table / 2);
+    EXPECT(NULDOPA_KEPT_BYTES == sizeof equal_certificate / 2);
+    EXPECT(NULDOPA_LOST_BYTES == sizeof differ_certificate);
+    /* 16 states a side, and as many matchings of 6 registers with 6. */
+    EXPECT(NULDOPA_MOST_POSITIONS == 16 * 16 * 13327);
+    EXPECT(NULDOPA_NULL_BUFFER == 100 && NULDOPA_BUFFERS_OVERLAP == 101 && NULDOPA_LENGTH_TOO_LARGE == 102);
+}
+
+/* The plain functions, or the careful ones: where there is nothing else to refuse, these do the same. */
+typedef struct nuldopa_answer compare_function(const uint8_t *, size_t, uint8_t *, size_t, uint8_t *, size_t);
+typedef struct nuldopa_answer check_function(const uint8_t *, size_t, const uint8_t *, size_t);
+
+static void comparing(compare_function *compare)
 {
     size_t n = sizeof equal_task;
     fill();
-    EXPECT(is(nuldopa_compare(equal_task, n, table, 30, certificate, 20), 0, NULDOPA_EQUAL, 2, 0, 18));
+    EXPECT(is(compare(equal_task, n, table, 30, certificate, 20), 0, NULDOPA_EQUAL, 2, 0, 18));
     EXPECT(memcmp(table, equal_table, 24) == 0 && all(table + 24, 6, 0) && all(table + 30, 34, 165));
     EXPECT(memcmp(certificate, equal_certificate, 18) == 0 && all(certificate + 18, 46, 165));
     fill();
-    EXPECT(is(nuldopa_compare(differing_task, n, table, 24, certificate, 16), 0, NULDOPA_DIFFER, 2, 1, 16));
+    EXPECT(is(compare(differing_task, n, table, 24, certificate, 16), 0, NULDOPA_DIFFER, 2, 1, 16));
     EXPECT(memcmp(certificate, differ_certificate, 16) == 0 && all(certificate + 16, 48, 165));
     EXPECT(all(table + 8, 3, 0) && table[11] == 1 && all(table + 24, 40, 165));
 }
 
-static void refusals(void)
+static void too_little_lent(compare_function *compare)
 {
     size_t n = sizeof equal_task;
     fill();
-    EXPECT(refused(nuldopa_compare(equal_task, 0, table, 24, certificate, 18), NULDOPA_TASK_CUT) && untouched());
-    EXPECT(refused(nuldopa_compare(equal_task, n - 1, table, 24, certificate, 18), NULDOPA_TASK_CUT) && untouched());
-    EXPECT(refused(nuldopa_compare(equal_task + 1, n - 2, table, 24, certificate, 18), NULDOPA_BAD_HEADER));
-    EXPECT(untouched());
-    EXPECT(refused(nuldopa_compare(equal_task, n, table, 23, certificate, 18), NULDOPA_TABLE_TOO_SMALL));
+    EXPECT(refused(compare(equal_task, n, table, 23, certificate, 18), NULDOPA_TABLE_TOO_SMALL));
     EXPECT(all(table, 23, 0) && all(table + 23, 41, 165) && all(certificate, 64, 165));
     fill();
-    EXPECT(refused(nuldopa_compare(equal_task, n, table, 24, certificate, 17), NULDOPA_BUFFER_TOO_SMALL));
+    EXPECT(refused(compare(equal_task, n, table, 24, certificate, 17), NULDOPA_BUFFER_TOO_SMALL));
     EXPECT(all(table, 24, 0) && all(table + 24, 40, 165) && all(certificate, 64, 165));
-}
-
-static void checking(void)
-{
-    size_t n = sizeof equal_task;
-    EXPECT(is(nuldopa_check(equal_task, n, equal_certificate, 18), 0, NULDOPA_EQUAL, 0, 0, 0));
-    EXPECT(is(nuldopa_check(differing_task, n, differ_certificate, 16), 0, NULDOPA_DIFFER, 0, 1, 0));
-    EXPECT(refused(nuldopa_check(equal_task, n, differ_certificate, 16), NULDOPA_CERTIFICATE_NOT_ACCEPTED));
-    EXPECT(refused(nuldopa_check(equal_task, n, equal_certificate, 17), NULDOPA_CERTIFICATE_ILL_FORMED));
-    EXPECT(refused(nuldopa_check(equal_task, n, equal_certificate, 9), NULDOPA_CERTIFICATE_NOT_ACCEPTED));
-    EXPECT(refused(nuldopa_check(equal_task, n - 1, equal_certificate, 18), NULDOPA_TASK_CUT));
-}
-
-/* A careful call with nothing to refuse does what the plain one does. */
-static void careful_calls(void)
-{
-    size_t n = sizeof equal_task;
     fill();
-    EXPECT(is(nuldopa_try_compare(equal_task, n, table, 30, certificate, 20), 0, NULDOPA_EQUAL, 2, 0, 18));
-    EXPECT(memcmp(table, equal_table, 24) == 0 && all(table + 24, 6, 0) && all(table + 30, 34, 165));
-    EXPECT(memcmp(certificate, equal_certificate, 18) == 0 && all(certificate + 18, 46, 165));
-    EXPECT(is(nuldopa_try_check(equal_task, n, certificate, 18), 0, NULDOPA_EQUAL, 0, 0, 0));
-    EXPECT(refused(nuldopa_try_check(equal_task, n, certificate, 17), NULDOPA_CERTIFICATE_ILL_FORMED));
+    EXPECT(refused(compare(equal_task, n, table, 0, certificate, 0), NULDOPA_TABLE_TOO_SMALL) && untouched());
+}
+
+/* One state with 6 registers, none of them held, and 65 edges. Returns its length. */
+static size_t too_many_edges(uint8_t *task)
+{
+    static const uint8_t model[] = {1, 6, 1, 0, 2, 0, 0, 0};
+    size_t length = sizeof model;
+    memcpy(task, model, length);
+    for (uint8_t i = 0; i < 65; i++) {
+        const uint8_t edge[] = {3, 0, i / 6, 1, i % 6 + 1, 0};
+        memcpy(task + length, edge, sizeof edge);
+        length += sizeof edge;
+    }
+    return length;
+}
+
+/* Each refusal of a task, by its name; the tasks are those of docs/FORMATS.md. */
+static void refused_tasks(compare_function *compare, check_function *check)
+{
+    static const struct {
+        uint32_t refusal;
+        size_t length;
+        uint8_t bytes[32];
+    } tasks[] = {
+        {NULDOPA_UNKNOWN_RECORD, 1, {0}},
+        {NULDOPA_TASK_CUT, 0, {0}},
+        {NULDOPA_RECORD_MISPLACED, 1, {15}},
+        {NULDOPA_BAD_HEADER, 4, {1, 7, 1, 0}},
+        {NULDOPA_BAD_STATE, 8, {1, 0, 1, 0, 2, 1, 0, 0}},
+        {NULDOPA_BAD_EDGE, 14, {1, 1, 1, 0, 2, 0, 1, 0, 3, 0, 32, 0, 1, 0}},
+        {NULDOPA_REGISTER_RULE_BROKEN, 14, {1, 1, 1, 0, 2, 0, 0, 0, 3, 0, 0, 0, 1, 0}},
+        {NULDOPA_EDGE_NOT_RISING, 20, {1, 1, 1, 0, 2, 0, 1, 0, 3, 0, 0, 0, 1, 0, 3, 0, 0, 0, 1, 0}},
+        {NULDOPA_BAD_PAIR, 19, {1, 1, 1, 0, 2, 0, 1, 0, 1, 1, 1, 0, 2, 0, 1, 0, 4, 1, 2}},
+    };
+    uint8_t large[512];
+    size_t length = too_many_edges(large);
+    fill();
+    for (size_t i = 0; i < sizeof tasks / sizeof *tasks; i++) {
+        EXPECT(refused(compare(tasks[i].bytes, tasks[i].length, table, 24, certificate, 18), tasks[i].refusal));
+        EXPECT(refused(check(tasks[i].bytes, tasks[i].length, equal_certificate, 18), tasks[i].refusal));
+    }
+    EXPECT(refused(compare(large, length, table, 24, certificate, 18), NULDOPA_TOO_MANY_EDGES));
+    EXPECT(refused(check(large, length, equal_certificate, 18), NULDOPA_TOO_MANY_EDGES));
+    EXPECT(untouched());
+}
+
+static void checking(check_function *check)
+{
+    size_t n = sizeof equal_task;
+    EXPECT(is(check(equal_task, n, equal_certificate, 18), 0, NULDOPA_EQUAL, 0, 0, 0));
+    EXPECT(is(check(differing_task, n, differ_certificate, 16), 0, NULDOPA_DIFFER, 0, 1, 0));
+    EXPECT(refused(check(equal_task, n, differ_certificate, 16), NULDOPA_CERTIFICATE_NOT_ACCEPTED));
+    EXPECT(refused(check(equal_task, n, equal_certificate, 17), NULDOPA_CERTIFICATE_ILL_FORMED));
+    EXPECT(refused(check(equal_task, n, equal_certificate, 9), NULDOPA_CERTIFICATE_NOT_ACCEPTED));
+    EXPECT(refused(check(equal_task, n, equal_certificate, 0), NULDOPA_CERTIFICATE_NOT_ACCEPTED));
+}
+
+static void calls(compare_function *compare, check_function *check)
+{
+    comparing(compare);
+    too_little_lent(compare);
+    refused_tasks(compare, check);
+    checking(check);
 }
 
 static void null_buffers(void)
@@ -138,6 +212,7 @@ static void null_buffers(void)
     EXPECT(refused(nuldopa_try_compare(NULL, 0, NULL, 0, NULL, 0), NULDOPA_TASK_CUT));
     EXPECT(refused(nuldopa_try_check(NULL, 0, NULL, 0), NULDOPA_TASK_CUT));
     EXPECT(refused(nuldopa_try_check(equal_task, n, NULL, 0), NULDOPA_CERTIFICATE_NOT_ACCEPTED));
+    EXPECT(nulls_passed_on == 0);
 }
 
 static void overlapping_buffers(void)
@@ -161,6 +236,7 @@ static void overlapping_buffers(void)
     EXPECT(nuldopa_try_compare(shared + 100, n, shared + 76, 24, shared + 149, 18).refusal == 0);
     EXPECT(refused(nuldopa_try_compare(shared + 100, n, shared + 110, 0, certificate, 18), NULDOPA_TABLE_TOO_SMALL));
     EXPECT(refused(nuldopa_try_compare(shared + 100, n, table, 24, shared + 110, 0), NULDOPA_BUFFER_TOO_SMALL));
+    EXPECT(refused(nuldopa_try_compare(shared + 10, 0, shared, 24, certificate, 18), NULDOPA_TASK_CUT));
     /* What is only read may overlap. */
     EXPECT(refused(nuldopa_try_check(shared + 100, n, shared + 100, n), NULDOPA_CERTIFICATE_ILL_FORMED));
 }
@@ -187,10 +263,9 @@ int main(void)
     memcpy(differing_task, equal_task, sizeof equal_task);
     differing_task[39] = 2;
     layout();
-    comparing();
-    refusals();
-    checking();
-    careful_calls();
+    constants();
+    calls(nuldopa_compare, nuldopa_check);
+    calls(nuldopa_try_compare, nuldopa_try_check);
     null_buffers();
     overlapping_buffers();
     large_lengths();

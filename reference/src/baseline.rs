@@ -312,8 +312,12 @@ impl Explorer<'_> {
         for (left, right) in &here.tags {
             self.fresh_meets_fresh(own, &matching, left, right);
             self.known_meets_known(own, &matching, left, right);
-            self.left_known_meets_local(own, &matching, left, right, left_lone);
-            self.right_known_meets_local(own, &matching, left, right, right_lone);
+            self.known_meets_local(own, left_lone, left, right, |l, r| {
+                matching.after(l, r, matching.without_right(matching.packed, r.register))
+            });
+            self.known_meets_local(own, right_lone, right, left, |r, l| {
+                matching.after(l, r, matching.without_left(matching.packed, l.register))
+            });
         }
         let rounds = match (here.marks_differ, self.attacks.decided) {
             (true, _) => 0,
@@ -393,51 +397,27 @@ impl Explorer<'_> {
         }
     }
 
-    /// A number that only the left reader holds: the left reader attacks
-    /// with a known edge, or the right one with a locally fresh edge.
-    fn left_known_meets_local(
+    /// A number that only one reader holds, in one of the `unmatched`
+    /// registers: this reader attacks with a known edge, or the other one with
+    /// a locally fresh edge. `after` has where two such edges lead.
+    fn known_meets_local(
         &mut self,
         own: u32,
-        m: &Matching,
-        left: &Bundle,
-        right: &Bundle,
         unmatched: u8,
+        holder: &Bundle,
+        other: &Bundle,
+        after: impl Fn(&Step, &Step) -> u32,
     ) {
-        if unmatched & left.known_set == 0 {
+        if unmatched & holder.known_set == 0 {
             return;
         }
         self.grid.clear();
-        for l in &left.known {
-            for r in right.fresh.iter().filter(|r| !r.is_global && holds(unmatched, l.register)) {
-                let fields = m.without_right(m.packed, r.register);
-                self.grid.push(m.after(l, r, fields));
-            }
+        for known in holder.known.iter().filter(|step| holds(unmatched, step.register)) {
+            let local = other.fresh.iter().filter(|step| !step.is_global);
+            self.grid.extend(local.map(|local| after(known, local)));
         }
         self.number_grid();
-        self.attack_lone_known(own, &left.known, unmatched, right.local_count);
-    }
-
-    /// The same for a number that only the right reader holds.
-    fn right_known_meets_local(
-        &mut self,
-        own: u32,
-        m: &Matching,
-        left: &Bundle,
-        right: &Bundle,
-        unmatched: u8,
-    ) {
-        if unmatched & right.known_set == 0 {
-            return;
-        }
-        self.grid.clear();
-        for r in &right.known {
-            for l in left.fresh.iter().filter(|l| !l.is_global && holds(unmatched, r.register)) {
-                let fields = m.without_left(m.packed, l.register);
-                self.grid.push(m.after(l, r, fields));
-            }
-        }
-        self.number_grid();
-        self.attack_lone_known(own, &right.known, unmatched, left.local_count);
+        self.attack_lone_known(own, &holder.known, unmatched, other.local_count);
     }
 
     /// The grid has a row for each known edge of an unmatched register and a

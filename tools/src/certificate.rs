@@ -70,12 +70,7 @@ pub enum Certificate {
 }
 
 fn refused<T>(at: usize, words: &str) -> Result<T, Refusal> {
-    let words = words.into();
-    Err(Refusal {
-        number: 13,
-        at,
-        words,
-    })
+    Err(Refusal::new(13, at, words))
 }
 
 /// Reads a certificate of a task. The empty one is a list of no kept positions.

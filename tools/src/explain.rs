@@ -32,12 +32,7 @@ pub fn explain(task: &Task, bytes: &[u8]) -> Result<String, Refusal> {
 }
 
 fn refused<T>(at: usize, words: &str) -> Result<T, Refusal> {
-    let words = words.into();
-    Err(Refusal {
-        number: 14,
-        at,
-        words,
-    })
+    Err(Refusal::new(14, at, words))
 }
 
 /// Kept positions have equal end marks, and whatever one reader takes, the other can answer into a kept position.

@@ -3,6 +3,7 @@
 pub mod certificate;
 pub mod explain;
 pub mod model;
+pub mod program;
 pub mod setting;
 pub mod task;
 pub mod text;

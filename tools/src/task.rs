@@ -42,6 +42,13 @@ pub struct Refusal {
     pub words: String,
 }
 
+impl Refusal {
+    pub fn new(number: u8, at: usize, words: &str) -> Refusal {
+        let words = words.into();
+        Refusal { number, at, words }
+    }
+}
+
 impl fmt::Display for Refusal {
     fn fmt(&self, out: &mut fmt::Formatter) -> fmt::Result {
         write!(out, "REFUSED {} at byte {}", self.number, self.at)
@@ -81,11 +88,8 @@ pub fn read(bytes: &[u8]) -> Result<(Task, Vec<Record<'_>>), Refusal> {
         records.push(record);
     }
     let pairs = reading.pairs;
-    let models = <[Model; 2]>::try_from(reading.models).map_err(|_| Refusal {
-        number: 2,
-        at,
-        words: "expected two models".into(),
-    })?;
+    let models = <[Model; 2]>::try_from(reading.models)
+        .map_err(|_| Refusal::new(2, at, "expected two models"))?;
     Ok((Task { models, pairs }, records))
 }
 

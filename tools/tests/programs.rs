@@ -76,3 +76,8 @@ pub fn folder() -> Result<PathBuf, String> {
 pub fn read(path: &Path) -> Result<Vec<u8>, String> {
     fs::read(path).map_err(|error| format!("{}: {error}", path.display()))
 }
+
+pub fn text(path: &Path) -> Result<String, String> {
+    let bytes = read(path)?;
+    String::from_utf8(bytes).map_err(|error| format!("{}: {error}", path.display()))
+}

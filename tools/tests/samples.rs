@@ -1,11 +1,10 @@
 //! Both programs on every sample (samples/list.txt).
 use crate::programs::{self, Printed, COMPARE, EXPLAIN, TASKTEXT};
 use crate::tally::{same, Tally};
-use std::fs;
 use std::path::Path;
 
-/// These samples have their explanations in tools/expected.
-const EXPLAINED: [&str; 3] = ["case-02", "case-11", "further-3"];
+/// The list has so many samples at least.
+const LEAST: usize = 10;
 
 struct Sample {
     name: String,
@@ -15,7 +14,7 @@ struct Sample {
 }
 
 fn samples() -> Result<Vec<Sample>, String> {
-    let list = fs::read_to_string("samples/list.txt").map_err(|error| error.to_string())?;
+    let list = programs::text(Path::new("samples/list.txt"))?;
     let rows = list.lines().filter(|line| !line.starts_with('#'));
     let sample = |row: &str| {
         let mut columns = row.split('|').map(str::trim);
@@ -29,21 +28,29 @@ fn samples() -> Result<Vec<Sample>, String> {
 
 pub fn run(tally: &mut Tally) -> Result<(), String> {
     let samples = samples()?;
-    let enough = same(
-        "the list has samples",
-        samples.len() > EXPLAINED.len(),
-        true,
-    );
+    let enough = same("the list has samples", samples.len() >= LEAST, true);
     tally.check("samples", enough);
     for sample in &samples {
         tally.check(&format!("text of {}", sample.name), converted(sample));
         tally.check(&format!("explain {}", sample.name), explained(sample));
     }
-    for name in EXPLAINED {
-        let listed = samples.iter().any(|sample| sample.name == name);
-        tally.check(name, same("it is listed", listed, true));
-    }
+    tally.check("tools/README.md", shown_in_readme());
     Ok(())
+}
+
+/// The document shows the text of case 2 and the explanation of case 11 as they are.
+fn shown_in_readme() -> Result<(), String> {
+    let readme = programs::text(Path::new("tools/README.md"))?;
+    let lines = readme.lines().map(|line| line.strip_prefix("    "));
+    let shown: String = lines
+        .map(|line| line.unwrap_or_default().to_owned() + "\n")
+        .collect();
+    let task = programs::read(Path::new("samples/case-02.task"))?;
+    let text = programs::run(TASKTEXT, &["text"], &task)?.out;
+    let text = String::from_utf8_lossy(&text).into_owned();
+    same("the text in it", shown.contains(&text), true)?;
+    let explanation = programs::text(Path::new("tools/expected/case-11.txt"))?;
+    same("the explanation in it", shown.contains(&explanation), true)
 }
 
 /// Bytes to text to bytes, and on to the same text; or the stated refusal.
@@ -63,6 +70,7 @@ fn converted(sample: &Sample) -> Result<(), String> {
     same("the text again", again, text)
 }
 
+/// The explanation in tools/expected, of the stated verdict; or the stated refusal.
 fn explained(sample: &Sample) -> Result<(), String> {
     let certificate = programs::file(&format!("{}.certificate", sample.name), b"")?;
     let task = programs::read(Path::new(&sample.file))?;
@@ -79,19 +87,9 @@ fn explained(sample: &Sample) -> Result<(), String> {
     same("the messages", &printed.errors[..], "")?;
     same("the status", printed.status, Some(0))?;
     same("the verdict", text.split(':').next(), Some(verdict))?;
-    if verdict == "DIFFER" {
-        ends_with_reason(&text)?;
-    }
-    if EXPLAINED.contains(&&sample.name[..]) {
-        let expected = format!("tools/expected/{}.txt", sample.name);
-        let expected = programs::read(Path::new(&expected))?;
-        same(
-            "the explanation",
-            &text[..],
-            &String::from_utf8_lossy(&expected),
-        )?;
-    }
-    Ok(())
+    let expected = format!("tools/expected/{}.txt", sample.name);
+    let expected = programs::text(Path::new(&expected))?;
+    same("the explanation", text, expected)
 }
 
 /// The last line of an attack's explanation is an end, with its reason.

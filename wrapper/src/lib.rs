@@ -1,7 +1,7 @@
 //! Compares two reader models, and checks certificates: a safe wrapper of the proved static library.
 //!
-//! A comparison answers EQUAL or DIFFER with a certificate, or one of the refusals; README.md says what a task, a position
-//! and a certificate are. The library works in the buffers that it is lent and keeps no memory of its own.
+//! A comparison answers EQUAL or DIFFER with a certificate, or one of the refusals; docs/FORMATS.md says what a task, a
+//! position and a certificate are. The library works in the buffers that it is lent and keeps no memory of its own.
 //!
 //! ```no_run
 //! let task = std::fs::read("readers.task").unwrap();

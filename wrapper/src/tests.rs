@@ -86,6 +86,12 @@ fn records_of_other_bytes() {
     assert_eq!(records(&[]).count(), 0);
 }
 
+/// 16 states a side, and as many matchings of 6 registers with 6.
+#[test]
+fn most_positions() {
+    assert_eq!(MOST_POSITIONS, 16 * 16 * 13_327);
+}
+
 #[test]
 fn layout_of_the_answer() {
     use boundary::Answer;

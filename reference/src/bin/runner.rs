@@ -84,23 +84,27 @@ fn options(arguments: &[String]) -> Result<Options, String> {
         let [name, value] = flag else {
             return Err(USAGE.to_string());
         };
-        match name.as_str() {
-            "--seed" => options.seed = number(value)?,
-            "--count" => options.count = number(value)?,
-            "--first" => options.first = number(value)?,
-            "--kind" => options.kind = Some(ItemKind::from_name(value).ok_or(USAGE)?),
-            "--task" => {
-                let bytes =
-                    std::fs::read(value).map_err(|e| format!("cannot read {value}: {e}"))?;
-                options.task = Some(bytes);
-            }
-            "--sweep" => options.sweep = Some(Sweep::from_name(value).ok_or(USAGE)?),
-            "--require" => options.required.push(key_and_count(value)?),
-            "--fault" => options.fault = Some(fault(operation, value)?),
-            "--save" => options.save = value.into(),
-            "--timeout" => options.timeout = Duration::from_secs(number(value)?),
-            _ => return Err(USAGE.to_string()),
-        }
+        set(&mut options, name, value)?;
     }
     Ok(options)
+}
+
+fn set(options: &mut Options, name: &str, value: &str) -> Result<(), String> {
+    match name {
+        "--seed" => options.seed = number(value)?,
+        "--count" => options.count = number(value)?,
+        "--first" => options.first = number(value)?,
+        "--kind" => options.kind = Some(ItemKind::from_name(value).ok_or(USAGE)?),
+        "--task" => {
+            let bytes = std::fs::read(value).map_err(|e| format!("cannot read {value}: {e}"))?;
+            options.task = Some(bytes);
+        }
+        "--sweep" => options.sweep = Some(Sweep::from_name(value).ok_or(USAGE)?),
+        "--require" => options.required.push(key_and_count(value)?),
+        "--fault" => options.fault = Some(fault(options.operation, value)?),
+        "--save" => options.save = value.into(),
+        "--timeout" => options.timeout = Duration::from_secs(number(value)?),
+        _ => return Err(USAGE.to_string()),
+    }
+    Ok(())
 }

@@ -28,14 +28,15 @@ fn expect(parts: &[&str], wanted: u32) {
 }
 
 fn by_hand() {
-    kinds_lengths_places();
+    kinds_and_lengths();
+    places();
     headers_and_states();
     edges();
     pairs();
     after_the_end();
 }
 
-fn kinds_lengths_places() {
+fn kinds_and_lengths() {
     expect(&[""], 2);
     for unknown in ["00", "05", "0e", "10", "11", "ff", "00 01 02 03"] {
         expect(&[unknown], 1);
@@ -47,6 +48,14 @@ fn kinds_lengths_places() {
         expect(&[cut], 2);
         expect(&[A, A, cut], 2);
     }
+    // Complete but for the end.
+    expect(&[A, A], 2);
+    expect(&[A, A, "0f"], 0);
+    // File order: the bad header comes before the missing end.
+    expect(&["01 07 01 00"], 4);
+}
+
+fn places() {
     for misplaced in ["0f", "02 00 00 00", "03 00 00 00 01 00", "04 01 01"] {
         expect(&[misplaced], 3);
     }
@@ -71,11 +80,6 @@ fn kinds_lengths_places() {
     expect(&[A, "03 00 00 00 01 00", "02 01 00 00"], 3);
     // A model's edge after the pairs have begun.
     expect(&[A, A, "04 01 01", "03 00 00 00 01 00"], 3);
-    // Complete but for the end.
-    expect(&[A, A], 2);
-    expect(&[A, A, "0f"], 0);
-    // File order: the bad header comes before the missing end.
-    expect(&["01 07 01 00"], 4);
 }
 
 fn headers_and_states() {

@@ -2,15 +2,15 @@
 use std::env;
 use std::ffi::OsString;
 use std::fs;
-use std::io::{self, Write};
 use std::process::ExitCode;
+use tools::program;
 use tools::task::{self, Refusal};
 
 fn contents(file: &OsString) -> Result<Vec<u8>, String> {
     fs::read(file).map_err(|error| format!("{} cannot be read: {error}", file.display()))
 }
 
-fn run() -> Result<(), String> {
+fn explanation() -> Result<Vec<u8>, String> {
     let arguments: Vec<OsString> = env::args_os().skip(1).collect();
     let [task_file, certificate_file] = &arguments[..] else {
         return Err("use: explain TASK CERTIFICATE".into());
@@ -22,18 +22,9 @@ fn run() -> Result<(), String> {
     let certificate = contents(certificate_file)?;
     let (task, _) = task::read(&bytes).map_err(refused("task"))?;
     let text = tools::explain::explain(&task, &certificate).map_err(refused("certificate"))?;
-    io::stdout()
-        .write_all(text.as_bytes())
-        .map_err(|error| format!("standard output cannot be written: {error}"))
+    Ok(text.into_bytes())
 }
 
 fn main() -> ExitCode {
-    match run() {
-        Ok(()) => ExitCode::SUCCESS,
-        Err(message) => {
-            // The message is lost where standard error is closed; the exit status remains.
-            let _ = writeln!(io::stderr(), "{message}");
-            ExitCode::FAILURE
-        }
-    }
+    program::finish(explanation())
 }

@@ -16,6 +16,10 @@ unfolding count
 count-length i zero = refl
 count-length i (suc n) = ap suc (count-length (suc i) n)
 
+-- the ownership of an array of structs speaks of what its elements are mapped to, which are as many as they
+pub length-of-map : {A B : Type 0} (f : A → B) (l : List A) (n : ℕ) → length (map f l) ≡ n → length l ≡ n
+length-of-map f l n p = sym (length-map l f) ∙ p
+
 pub count-unique : (i n : ℕ) → Unique (count i n)
 unfolding count
 count-unique i zero = tt

@@ -13,7 +13,7 @@ use lookup::models::model_of;
 use lookup::models::set_of;
 use moves::cases::CaseFound;
 use moves::cases::next_case;
-use moves::registers::other;
+use registers::partners::other;
 use replies::fan;
 use replies::search::Challenge;
 use replies::search::Reply;

@@ -1,12 +1,12 @@
 -- Lists of kept numbers and of strings of one length, and five bytes written in a row. Assumes nothing.
 use Prim.Native.Nat.{ℕ, zero, suc, _+_, _*_, _≤_, _<_}
-use mathlib.Core.Path.{_≡_, refl, ap, sym, _∙_}
+use mathlib.Core.Path.{_≡_, refl, ap, _∙_}
 use mathlib.Core.Bool.{Bool, true, false}
-use mathlib.Core.List.{List, [], _∷_, _++_, map, flatMap, append-assoc, append-nil}
+use mathlib.Core.List.{List, [], _∷_, _++_, flatMap, append-assoc, append-nil}
 use native.Mathlib.Numerals.{add-one}
 use native.Mathlib.Nat.{zero-add, add-zero}
 use native.Mathlib.Omega.{arith}
-use lib.ListN.{length, getD, drop, set, length-map, List·getD-append}
+use lib.ListN.{length, getD, drop, set, List·getD-append}
 use lib.Seq.{sets, sets-eq, getD-append-add}
 use Rattle.fra.specs.Lists.{keep, count}
 use Rattle.fra_laws.proofs.Lists.{keep-passes, keep-fails}
@@ -47,10 +47,6 @@ module _ {A B : Type 0} (f : A → List B) where
   flatMap-at n c d h (x ∷ l) (suc i) k p q =
       let e : n * suc i + k ≡ length (f x) + (n * i + k) = omega (arith, h x) in
       rw e (getD-append-add (f x) (flatMap f l) (n * i + k) d ∙ flatMap-at n c d h l i k (omega arith) q)
-
--- what owning an array tells is said of what its elements are mapped to, which are as many as they
-pub length-of-map : {A B : Type 0} (f : A → B) (l : List A) (n : ℕ) → length (map f l) ≡ n → length l ≡ n
-length-of-map f l n p = sym (length-map l f) ∙ p
 
 -- bytes written behind others
 pub sets-append : (l : List ℕ) (i : ℕ) (a b : List ℕ) → sets l i (a ++ b) ≡ sets (sets l i a) (i + length a) b

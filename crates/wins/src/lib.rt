@@ -10,7 +10,7 @@ use fra::Side;
 use index::Range;
 use moves::cases;
 use moves::cases::CaseFound;
-use moves::registers::other;
+use registers::partners::other;
 use replies::fan;
 use replies::search;
 use replies::search::Challenge;

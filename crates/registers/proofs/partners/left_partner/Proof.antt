@@ -1,4 +1,4 @@
--- `moves::registers::left_partner` meets its contract. The loop's invariant: the partner is found from place `i` on. The
+-- `registers::partners::left_partner` meets its contract. The loop's invariant: the partner is found from place `i` on. The
 -- measure is how many places are left. Assumes nothing.
 use Prim.Native.Nat.{_+_, _-_, _≤_}
 use mathlib.Core.Path.{_≡_, refl, sym, _∙_}
@@ -6,9 +6,9 @@ use native.Mathlib.Omega.{arith}
 use lib.ListN.{length, drop}
 use borrow.Author.Needs.{needs}
 use Rattle.fra.specs.Position.{leftPartner}
-use Rattle.moves.proofs.Partners.{left-partner-here, left-partner-later, left-partner-none}
-use Rattle.moves.proofs.registers.left_partner.Statement.{statement}
-use Rattle.moves.proofs.registers.left_partner.Tie as tie
+use Rattle.registers.proofs.Places.{left-partner-here, left-partner-later, left-partner-none}
+use Rattle.registers.proofs.partners.left_partner.Statement.{statement}
+use Rattle.registers.proofs.partners.left_partner.Tie as tie
 
 abbrev Inv-loop : tie.InvT-loop
 Inv-loop j partners i₀ i =

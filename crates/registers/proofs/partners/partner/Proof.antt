@@ -1,8 +1,8 @@
--- `moves::registers::partner` meets its contract, side by side. Assumes nothing.
+-- `registers::partners::partner` meets its contract, side by side. Assumes nothing.
 use borrow.Author.Needs.{needs}
 use Rattle.fra.specs.Position.{partner}
-use Rattle.moves.proofs.registers.partner.Statement.{statement}
-use Rattle.moves.proofs.registers.partner.Tie as tie
+use Rattle.registers.proofs.partners.partner.Statement.{statement}
+use Rattle.registers.proofs.partners.partner.Tie as tie
 
 enum-told : tie.Need-enum-told
 enum-told c = search needs

@@ -1,29 +1,13 @@
--- Register sets of one byte, and partners from one place of a matching on. Assumes nothing.
-use Prim.Native.Nat.{ℕ, zero, suc, _+_, _-_, _≤_, _<_, _/_, _%_, _^_}
+-- Partners from one place of a matching on. Assumes nothing.
+use Prim.Native.Nat.{ℕ, zero, suc, _+_, _-_, _≤_, _<_}
 use mathlib.Core.Path.{_≡_, refl}
-use mathlib.Core.Bool.{false}
 use mathlib.Core.List.{List}
-use native.Mathlib.Nat.{div-eq-of-lt, pow-le-pow-right, lt-of-lt-of-le}
 use native.Mathlib.Numerals.{add-one}
 use native.Mathlib.Omega.{arith}
-use lib.Dec.{eqb, lit<}
 use lib.ListN.{length, getD, drop, drop-of-length-le, List·getD-eq-default}
 use lib.Seq.{drop-cons}
 use borrow.Author.Tests.{eq-eqb, ne-eqb}
-use Rattle.fra.specs.Registers.{has}
 use Rattle.fra.specs.Position.{rightPartner, leftPartner}
-
--- a set of one byte has no register past the eighth
-pub has-none : (set i : ℕ) → set < 256 → 8 < i → has set i ≡ false
-unfolding has
-has-none set zero p q = refl
-has-none set (suc k) p q =
-    rw (div-eq-of-lt (lt-of-lt-of-le p (pow-le-pow-right {n = 2} (lit< tt) {i = 8} {j = k} (omega arith))))
-
-pub has-bit : (set i : ℕ) → 0 < i → has set i ≡ eqb (set / 2 ^ (i - 1) % 2) 1
-unfolding has
-has-bit set zero p = absurd (omega arith)
-has-bit set (suc k) p = let e : suc k - 1 ≡ k = omega arith in rw e
 
 pub right-partner-at : (l : List ℕ) (i : ℕ) → 0 < i → rightPartner l i ≡ getD l (i - 1) 0
 unfolding rightPartner

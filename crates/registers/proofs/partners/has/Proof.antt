@@ -1,11 +1,11 @@
--- `moves::registers::has` meets its contract: a set of one byte has no register past the eighth. Assumes nothing.
+-- `registers::partners::has` meets its contract: a set of one byte has no register past the eighth. Assumes nothing.
 use mathlib.Core.Path.{sym}
 use native.Mathlib.Omega.{arith}
 use borrow.Author.Needs.{needs}
 use Rattle.fra.specs.Registers.{has}
-use Rattle.moves.proofs.Partners.{has-none, has-bit}
-use Rattle.moves.proofs.registers.has.Statement.{statement}
-use Rattle.moves.proofs.registers.has.Tie as tie
+use Rattle.registers.proofs.Bits.{has-none, has-bit}
+use Rattle.registers.proofs.partners.has.Statement.{statement}
+use Rattle.registers.proofs.partners.has.Tie as tie
 
 returns : tie.Need-returns
 unfolding has

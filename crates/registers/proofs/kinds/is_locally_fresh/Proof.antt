@@ -1,7 +1,7 @@
--- `moves::kinds::is_locally_fresh` meets its contract, kind by kind. Assumes nothing.
+-- `registers::kinds::is_locally_fresh` meets its contract, kind by kind. Assumes nothing.
 use borrow.Author.Needs.{needs}
-use Rattle.moves.proofs.kinds.is_locally_fresh.Statement.{statement}
-use Rattle.moves.proofs.kinds.is_locally_fresh.Tie as tie
+use Rattle.registers.proofs.kinds.is_locally_fresh.Statement.{statement}
+use Rattle.registers.proofs.kinds.is_locally_fresh.Tie as tie
 
 enum-told : tie.Need-enum-told
 enum-told c = search needs

@@ -1,7 +1,7 @@
--- `moves::kinds::is_known` meets its contract, kind by kind. Assumes nothing.
+-- `registers::kinds::is_known` meets its contract, kind by kind. Assumes nothing.
 use borrow.Author.Needs.{needs}
-use Rattle.moves.proofs.kinds.is_known.Statement.{statement}
-use Rattle.moves.proofs.kinds.is_known.Tie as tie
+use Rattle.registers.proofs.kinds.is_known.Statement.{statement}
+use Rattle.registers.proofs.kinds.is_known.Tie as tie
 
 enum-known-kind : tie.Need-enum-known-kind
 enum-known-kind c = search needs

@@ -1,7 +1,7 @@
--- `moves::registers::other` meets its contract, side by side. Assumes nothing.
+-- `registers::partners::other` meets its contract, side by side. Assumes nothing.
 use borrow.Author.Needs.{needs}
-use Rattle.moves.proofs.registers.other.Statement.{statement}
-use Rattle.moves.proofs.registers.other.Tie as tie
+use Rattle.registers.proofs.partners.other.Statement.{statement}
+use Rattle.registers.proofs.partners.other.Tie as tie
 
 enum-told : tie.Need-enum-told
 enum-told c = search needs

@@ -1,12 +1,12 @@
--- `moves::registers::right_partner` meets its contract: past the last left register there is no partner. Assumes nothing.
+-- `registers::partners::right_partner` meets its contract: past the last left register there is no partner. Assumes nothing.
 use mathlib.Core.Path.{_≡_, sym}
 use native.Mathlib.Omega.{arith}
 use lib.ListN.{length}
 use borrow.Author.Needs.{needs}
 use Rattle.fra.specs.Position.{rightPartner}
-use Rattle.moves.proofs.Partners.{right-partner-at, right-partner-past}
-use Rattle.moves.proofs.registers.right_partner.Statement.{statement}
-use Rattle.moves.proofs.registers.right_partner.Tie as tie
+use Rattle.registers.proofs.Places.{right-partner-at, right-partner-past}
+use Rattle.registers.proofs.partners.right_partner.Statement.{statement}
+use Rattle.registers.proofs.partners.right_partner.Tie as tie
 
 returns : tie.Need-returns
 unfolding rightPartner

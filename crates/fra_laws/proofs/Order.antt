@@ -59,10 +59,6 @@ below-transitive (x ∷ l) (y ∷ m) (z ∷ n) p q =
         or-right (ltb x z) (eqb x z && below l n)
         (and-intro (eqb x z) (below l n) (eq-eqb x z (d ∙ e)) (rest (search and-right) (search and-right)))
 
-pub below-asymmetric : (l m : List ℕ) → below l m ≡ true → below m l ≡ false
-below-asymmetric l m p =
-    fails-unless (below m l) (λ q. not-both (below l l) (below-transitive l m l p q) (below-irreflexive l))
-
 -- two strings neither of which is below the other are the same
 pub below-total : (l m : List ℕ) → below l m ≡ false → below m l ≡ false → l ≡ m
 unfolding below
@@ -107,10 +103,6 @@ before-irreflexive p = below-irreflexive (bytes p)
 pub before-transitive : (p q r : Position) → before p q ≡ true → before q r ≡ true → before p r ≡ true
 unfolding before
 before-transitive p q r = below-transitive (bytes p) (bytes q) (bytes r)
-
-pub before-asymmetric : (p q : Position) → before p q ≡ true → before q p ≡ false
-unfolding before
-before-asymmetric p q = below-asymmetric (bytes p) (bytes q)
 
 pub before-total : (p q : Position) → before p q ≡ false → before q p ≡ false → p ≡ q
 unfolding before

@@ -5,8 +5,8 @@ use mathlib.Core.Path.{_≡_, refl, sym, _∙_, ap}
 use mathlib.Core.List.{List, [], _∷_, _++_, flatMap, append-assoc, List·Memᴰ·head, List·Memᴰ·tail}
 use native.Mathlib.Omega.{arith}
 use native.Mathlib.Nat.{zero-add, add-suc, suc-add, suc-mul, zero-mul, add-comm}
-use lib.ListN.{length, getD, set, drop, length-append, length-set, List·getD-append}
-use lib.Seq.{sets, drop-append-add, drop-cons, getD-drop, set-append-left}
+use lib.ListN.{length, getD, set, drop, length-append, length-set}
+use lib.Seq.{sets, drop-append-add, set-append-left}
 use Rattle.fra.specs.Lists.{_∈_}
 
 module _ {A : Type 0} where
@@ -56,14 +56,6 @@ module _ {A B : Type 0} (record-of : A → List B) (width : ℕ) where
       (ap (λ (n : ℕ). drop (n + i * width) (record-of a ++ (flatMap record-of l ++ rest))) (sym (w a (List·Memᴰ·head refl)))
       ∙ drop-append-add (record-of a) (flatMap record-of l ++ rest) (i * width)
       ∙ records-from l rest i (λ b m. w b (List·Memᴰ·tail m)) (omega arith))
-
-  -- element f of record i
-  pub record-element : (l : List A) (rest : List B) (i f : ℕ) (z : A) (d : B) → Wide l → i < length l → f < width
-      → getD (flatMap record-of l ++ rest) (i * width + f) d ≡ getD (record-of (getD l i z)) f d
-  unfolding flatMap
-  record-element l rest i f z d w h k =
-      rw (← getD-drop, records-from l rest i w (omega arith), drop-cons l i z h, append-assoc)
-      (List·getD-append (record-of (getD l i z)) _ d f (omega (arith, w (getD l i z) (at-member l i z h))))
 
   -- a write inside record i makes it another record
   pub record-write : (l : List A) (rest : List B) (i f : ℕ) (z a : A) (vs : List B) → Wide l → i < length l

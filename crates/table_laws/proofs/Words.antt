@@ -5,10 +5,10 @@ use mathlib.Core.Logic.{_⊎_, inl, inr, ⊎-elim}
 use mathlib.Core.List.{List, [], _∷_}
 use native.Mathlib.Omega.{arith}
 use native.Mathlib.Nat.{add-zero, add-suc, suc-add}
-use lib.ListN.{length, drop, length-drop, getD, set, length-set}
+use lib.ListN.{length, drop, getD, set, length-set}
 use lib.Pow.{recompose, mod-pow-add}
 use lib.Seq.{sets, getD-drop, getD-set-same, getD-set-other}
-use Rattle.outcome.specs.Bytes.{word, wordAt, cleared, thenZeros}
+use Rattle.outcome.specs.Bytes.{word, wordAt}
 use Rattle.table_laws.specs.Table.{putWord}
 
 -- ── A run of stores, of anything ──
@@ -107,10 +107,3 @@ read-other-word l i n j h =
   where
     e : (k : ℕ) → k < 4 → getD (putWord l i n) (j + k) 0 ≡ getD l (j + k) 0
     e k m = put-other l i n (j + k) (⊎-elim (λ a. inl (omega arith)) (λ a. inr (omega arith)) h)
-
--- ── Zeros behind what was written ──
-
--- they do not depend on what stood there
-pub thenZeros-size : (written t u : List ℕ) → length t ≡ length u → thenZeros written t ≡ thenZeros written u
-unfolding thenZeros cleared
-thenZeros-size written t u e = rw (length-drop (length written) t, length-drop (length written) u, e)

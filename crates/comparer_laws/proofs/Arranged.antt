@@ -15,13 +15,13 @@ use Rattle.fra.specs.declared.Task.{Task}
 use Rattle.fra_laws.proofs.Legal.{legal-facts}
 use Rattle.fra_laws.proofs.Count.{most-positions}
 use Rattle.fra_laws.proofs.Reached.{reached-rising, reached-legal, reached-unique}
+use Rattle.fra_laws.proofs.Records.{at-member, records-length}
 use Rattle.outcome.specs.Bytes.{allOnes}
 use Rattle.outcome.specs.Certificate.{roundsOrNever, entry, entries}
 use Rattle.table_laws.specs.Keys.{keyOf, positionFrom, Small}
 use Rattle.table_laws.specs.Sorted.{sorted, Ascending, Permuted}
 use Rattle.table_laws.specs.Table.{keys, withKeys, row, laidOut}
 use Rattle.table_laws.proofs.Keys.{key-bound, position-of-key, key-rises, legal-small}
-use Rattle.table_laws.proofs.Records.{at-member, records-length}
 use Rattle.table_laws.proofs.Sorted.{ascending-sorted}
 use Rattle.table_laws.proofs.Tables.{keys-of-with}
 use Rattle.table_laws.proofs.Rows.{row-length}

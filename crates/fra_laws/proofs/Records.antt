@@ -4,10 +4,11 @@ use Prim.Native.Nat.{ℕ, zero, suc, _+_, _*_, _≤_, _<_}
 use mathlib.Core.Path.{_≡_, refl, sym, _∙_, ap}
 use mathlib.Core.List.{List, [], _∷_, _++_, flatMap, append-assoc, List·Memᴰ·head, List·Memᴰ·tail}
 use native.Mathlib.Omega.{arith}
-use native.Mathlib.Nat.{zero-add, add-suc, suc-add, suc-mul, zero-mul, add-comm}
-use lib.ListN.{length, getD, set, drop, length-append, length-set}
+use native.Mathlib.Nat.{zero-add, add-zero, add-suc, suc-add, suc-mul, zero-mul, add-comm}
+use lib.ListN.{length, getD, set, drop, length-set}
 use lib.Seq.{sets, drop-append-add, set-append-left}
 use Rattle.fra.specs.Lists.{_∈_}
+use Rattle.fra_laws.proofs.Lengths.{flatMap-length}
 
 module _ {A : Type 0} where
   pub at-member : (l : List A) (i : ℕ) (z : A) → i < length l → getD l i z ∈ l
@@ -25,6 +26,13 @@ module _ {A : Type 0} where
   sets-left xs ys i (v ∷ vs) h =
       rw (set-append-left xs ys i v (omega arith)) (sets-left (set xs i v) ys (suc i) vs (rw length-set (omega arith)))
 
+  -- stores in a row, and those behind them
+  pub sets-append : (l : List A) (i : ℕ) (a b : List A) → sets l i (a ++ b) ≡ sets (sets l i a) (i + length a) b
+  sets-append l i [] b = rw (add-zero i)
+  sets-append l i (x ∷ a) b =
+      let e : suc i + length a ≡ i + suc (length a) = omega arith in
+      sets-append (set l i x) (suc i) a b ∙ rw e
+
   set-right : (xs ys : List A) (n : ℕ) (v : A) → set (xs ++ ys) (length xs + n) v ≡ xs ++ set ys n v
   set-right [] ys n v = rw zero-add
   set-right (x ∷ xs) ys n v = rw suc-add (ap (λ (l : List A). x ∷ l) (set-right xs ys n v))
@@ -39,11 +47,7 @@ module _ {A B : Type 0} (record-of : A → List B) (width : ℕ) where
   Wide l = (a : A) → a ∈ l → length (record-of a) ≡ width
 
   pub records-length : (l : List A) → Wide l → length (flatMap record-of l) ≡ length l * width
-  unfolding flatMap
-  records-length [] w = sym (zero-mul width)
-  records-length (a ∷ l) w =
-      length-append (record-of a) (flatMap record-of l)
-      ∙ rw (suc-mul, w a (List·Memᴰ·head refl), records-length l (λ b m. w b (List·Memᴰ·tail m))) (add-comm width (length l * width))
+  records-length l = flatMap-length record-of l width
 
   -- what stands from record i on
   pub records-from : (l : List A) (rest : List B) (i : ℕ) → Wide l → i ≤ length l

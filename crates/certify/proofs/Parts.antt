@@ -11,13 +11,14 @@ use Rattle.fra.specs.Lists.{count}
 use Rattle.fra.specs.Position.{bytes}
 use Rattle.fra.specs.declared.Position.{Position}
 use Rattle.fra.specs.declared.Attack.{Attack}
+use Rattle.fra_laws.proofs.Records.{sets-append}
 use Rattle.outcome.specs.Bytes.{word, wordAt}
 use Rattle.outcome.specs.Certificate.{keptRecord, lossRecord, lossWith}
+use Rattle.outcome_laws.proofs.Words.{word-bytes}
+use Rattle.outcome_laws.proofs.Encoding.{position-bytes}
 use Rattle.table_laws.specs.Table.{putWord, positionAt}
-use Rattle.table_laws.proofs.Words.{Bytes, word-bytes}
+use Rattle.table_laws.proofs.Words.{Bytes}
 use Rattle.table_laws.proofs.Tables.{part}
-use Rattle.table_laws.proofs.Search.{position-bytes}
-use Rattle.replies.proofs.Lists.{sets-append}
 use Rattle.wins.specs.Wins.{winOf}
 use Rattle.certify_laws.proofs.Filling.{kept-width}
 use Rattle.certify.specs.Fields.{attackBytes}
@@ -39,7 +40,7 @@ position-words table i b room =
     let seven : i * 12 + 4 + 3 ≡ i * 12 + 7 = omega arith in
     rw (word-bytes table (i * 12) b, word-bytes table (i * 12 + 4) b, five, six, seven)
     (rw (add-zero (i * 12)) at (part 8 table (i * 12) (omega arith))
-    ∙ sym (position-bytes (drop (i * 12) table) (rw length-drop (omega arith))))
+    ∙ sym (position-bytes 6 (drop (i * 12) table) (rw length-drop (omega arith))))
 
 -- a kind and a position
 pub head-written : (table buffer : List ℕ) (i at kind : ℕ) → Bytes table → i * 12 + 12 ≤ length table

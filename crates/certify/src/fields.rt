@@ -3,6 +3,12 @@ use fra::IdCase;
 use fra::Side;
 use leads::attack_of;
 use outcome::Verdict;
+use outcome::layout::KEPT_KIND;
+use outcome::layout::KEPT_WIDTH;
+use outcome::layout::LOST_KIND;
+use outcome::layout::LOST_WIDTH;
+use outcome::layout::ROUNDS;
+use outcome::layout::SIDE;
 use replies::fan;
 use table::ENTRY;
 use table::position_at;
@@ -21,20 +27,6 @@ ghost use Rattle.index.specs.Index.{ForTask};
 ghost use Rattle.wins.specs.Judgement.{Searchable};
 ghost use Rattle.certify_laws.specs.Records.{recordSize, recordAt};
 ghost use Rattle.certify.specs.Fields.{attackBytes};
-
-// The kind bytes and widths of records of positions that are never lost, and of positions that are.
-pub const KEPT_KIND: u8 = 16;
-
-pub const KEPT_WIDTH: usize = 9;
-
-pub const LOST_KIND: u8 = 17;
-
-pub const LOST_WIDTH: usize = 16;
-
-// Where an attack and the rounds stand in a record.
-pub const ATTACK: usize = 9;
-
-pub const ROUNDS: usize = 12;
 
 fn side_number(side: Side) -> u8
     ensures { λ r. ⌜ r ≡ sideNumber side ⌝ }
@@ -106,7 +98,7 @@ fn put_loss(
     let rounds = word_at(table, i * ENTRY + table::ROUNDS) / 2;
     let attack = attack_of(table, n, left, right, states, position_at(table, i), rounds);
     put_head(table, i, LOST_KIND, buffer, at);
-    put_attack(buffer, at + ATTACK, attack);
+    put_attack(buffer, at + SIDE, attack);
     put_word(buffer, at + ROUNDS, rounds);
 }
 

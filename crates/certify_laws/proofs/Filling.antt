@@ -16,6 +16,7 @@ use Rattle.fra.specs.declared.Position.{Position}
 use Rattle.fra.specs.declared.Task.{Task}
 use Rattle.fra_laws.proofs.Lists.{keep-elim, count-elim}
 use Rattle.fra_laws.proofs.Lengths.{flatMap-length}
+use Rattle.fra_laws.proofs.Records.{sets-append}
 use Rattle.outcome.specs.Bytes.{word, thenRest}
 use Rattle.outcome.specs.Check.{positionOf}
 use Rattle.outcome.specs.Verdicts.{kindOf}
@@ -24,7 +25,7 @@ use Rattle.outcome.specs.declared.Verdict.{Verdict}
 use Rattle.outcome.specs.declared.Verdict.the-variants.{Equal, Differ}
 use Rattle.outcome_laws.proofs.Written.{loss-position}
 use Rattle.table_laws.specs.Table.{positionAt}
-use Rattle.replies.proofs.Lists.{keep-count-passes, keep-count-fails, flatMap-append, sets-append}
+use Rattle.replies.proofs.Lists.{keep-count-passes, keep-count-fails, flatMap-append}
 use Rattle.rank_laws.specs.Rows.{roundsAt}
 use Rattle.certify_laws.specs.Records.{isListed, recordSize, listedPlaces, recordAt, recordsOf}
 

@@ -2,20 +2,16 @@
 use Prim.Native.Nat.{ℕ, _<_}
 use mathlib.Core.Path.{_≡_, refl, sym, _∙_, ap}
 use mathlib.Core.Bool.{Bool, true}
-use mathlib.Core.List.{List, [], _∷_, _++_, map, flatMap, List·Memᴰ·head, List·Memᴰ·tail}
+use mathlib.Core.List.{List, [], _∷_, _++_, map, flatMap}
 use native.Mathlib.Omega.{arith}
 use lib.ListN.{length, getD}
 use Rattle.fra.specs.Lists.{_∈_, keep, count}
+use Rattle.rank_laws.proofs.Rows.{flatMap-same}
 use Rattle.fra_laws.proofs.Lists.{keep-elim, count-elim}
 use Rattle.table_laws.proofs.Tables.{elements}
 use Rattle.moves.proofs.Lists.{keep-same, keep-map}
 
 module _ {A B : Type 0} where
-  pub flatMap-same : (f h : A → List B) (l : List A) → ((a : A) → a ∈ l → f a ≡ h a) → flatMap f l ≡ flatMap h l
-  unfolding flatMap
-  flatMap-same f h [] e = refl
-  flatMap-same f h (a ∷ l) e = rw (e a (List·Memᴰ·head refl), flatMap-same f h l (λ b m. e b (List·Memᴰ·tail m)))
-
   pub flatMap-map : {C : Type 0} (f : A → List B) (h : C → A) (l : List C) → flatMap f (map h l) ≡ flatMap (λ c. f (h c)) l
   unfolding flatMap
   flatMap-map f h [] = refl

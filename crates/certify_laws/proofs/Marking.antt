@@ -27,11 +27,11 @@ use Rattle.fra_laws.proofs.Lists.{first-found}
 use Rattle.fra_laws.proofs.Legal.{legal-facts, attack-edge-exists}
 use Rattle.fra_laws.proofs.Reached.{reached-rising, reached-legal, reached-after}
 use Rattle.fra_laws.proofs.Rounds.{rank-some}
+use Rattle.fra_laws.proofs.Records.{at-member}
 use Rattle.outcome.specs.Check.{same}
 use Rattle.outcome.specs.Certificate.{attackOf, attackLeads, lossStep}
 use Rattle.outcome_laws.proofs.Accepted.{same-passes}
 use Rattle.table_laws.specs.Table.{putWord, positionAt, positions}
-use Rattle.table_laws.proofs.Records.{at-member}
 use Rattle.table.specs.Places.{placeOf}
 use Rattle.table.specs.declared.Place.the-variants.{At}
 use Rattle.rank_laws.specs.Levels.{level}

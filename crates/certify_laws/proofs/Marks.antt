@@ -22,11 +22,12 @@ use Rattle.fra_laws.proofs.Lists.{all-at, keep-intro, keep-elim, first-found}
 use Rattle.fra_laws.proofs.Closure.{closure-keeps}
 use Rattle.fra_laws.proofs.Reached.{reached-rising}
 use Rattle.fra_laws.proofs.Rounds.{rank-some, rank-least}
+use Rattle.fra_laws.proofs.Order.{keep-rising}
 use Rattle.outcome.specs.Check.{same}
 use Rattle.outcome.specs.Certificate.{wins, chosen, attackOf, attackLeads, lossStep}
 use Rattle.outcome_laws.proofs.Accepted.{same-passes}
 use Rattle.outcome_laws.proofs.Written.{listed, listed-computes, listed-lost}
-use Rattle.certify_laws.proofs.Rising.{keep-rising, rising-same}
+use Rattle.certify_laws.proofs.Rising.{rising-same}
 
 -- ── More marks ──
 

@@ -1,23 +1,13 @@
 -- Rising lists of positions are known by their members. Assumes nothing.
 use mathlib.Core.Path.{_≡_, refl, sym, ap₂}
-use mathlib.Core.Logic.{_⊎_, ⊎-elim, _↔_}
-use mathlib.Core.Bool.{Bool, true, false}
+use mathlib.Core.Logic.{⊎-elim, _↔_}
+use mathlib.Core.Bool.{true}
 use mathlib.Core.List.{List, [], _∷_, List·Memᴰ·head, List·Memᴰ·tail, List·Memᴰ·not-nil, List·Memᴰ·cases-cons}
-use Rattle.fra.specs.Lists.{_∈_, keep}
+use Rattle.fra.specs.Lists.{_∈_}
 use Rattle.fra.specs.Position.{Rising, before}
 use Rattle.fra.specs.declared.Position.{Position}
 use Rattle.fra_laws.proofs.Tests.{not-both}
-use Rattle.fra_laws.proofs.Lists.{keep-passes, keep-fails, keep-elim}
 use Rattle.fra_laws.proofs.Order.{before-irreflexive, before-transitive}
-
-pub keep-rising : (f : Position → Bool) (l : List Position) → Rising l → Rising (keep f l)
-unfolding keep
-keep-rising f [] r = tt
-keep-rising f (p ∷ l) r = step (f p) refl (keep-rising f l (r .1))
-  where
-    step : (b : Bool) → f p ≡ b → Rising (keep f l) → Rising (keep f (p ∷ l))
-    step true e rest = rw (keep-passes f p l e) (λ q m. r .0 q (keep-elim f q l m .0), rest)
-    step false e rest = rw (keep-fails f p l e) rest
 
 -- no list has its first position again, nor one before it
 first-once : (p q : Position) (l : List Position) → Rising (p ∷ l) → q ∈ p ∷ l → before q p ≡ true → ⊥

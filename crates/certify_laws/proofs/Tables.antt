@@ -14,8 +14,8 @@ use Rattle.fra.specs.Position.{Rising, before, unmatched}
 use Rattle.fra.specs.declared.Position.{Position}
 use Rattle.fra_laws.proofs.Tests.{not-both}
 use Rattle.fra_laws.proofs.Order.{before-irreflexive}
+use Rattle.fra_laws.proofs.Records.{at-member}
 use Rattle.table_laws.specs.Table.{putWord, positionAt, positions}
-use Rattle.table_laws.proofs.Records.{at-member}
 use Rattle.table_laws.proofs.Search.{rising-at}
 use Rattle.table.specs.Places.{placeOf}
 use Rattle.table.specs.declared.Place.the-variants.{At}

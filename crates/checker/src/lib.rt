@@ -2,9 +2,9 @@
 // certificate in, acceptance with its verdict and rounds or a refusal out.
 use fra::Task;
 use listing::formed::formed;
-use listing::layout;
 use outcome::Check;
 use outcome::Verdict;
+use outcome::layout;
 use reader::read_task;
 use task::Answer;
 ghost use mathlib.Core.Path.{_≡_};

@@ -103,11 +103,6 @@ module _ (f : ℕ → Bool) where
 
 -- ── Lists by their places ──
 
-pub at-member : {A : Type 0} (l : List A) (i : ℕ) (d : A) → i < length l → getD l i d ∈ l
-at-member [] i d h = absurd (omega arith)
-at-member (x ∷ l) zero d h = List·Memᴰ·head refl
-at-member (x ∷ l) (suc i) d h = List·Memᴰ·tail (at-member l i d (omega arith))
-
 module _ {A B : Type 0} (f : B → A) (z : B) where
   pub by-places : (g : ℕ → A) (k : ℕ) (l : List B) → ((i : ℕ) → i < length l → g (k + i) ≡ f (getD l i z))
       → map g (count k (length l)) ≡ map f l

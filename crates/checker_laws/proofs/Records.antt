@@ -4,12 +4,12 @@ use Prim.Native.Nat.{ℕ, zero, suc, _+_, _-_, _*_, _%_, _≤_, _<_}
 use mathlib.Core.Path.{_≡_, refl, sym, _∙_, ap}
 use mathlib.Core.Logic.{inl, inr}
 use mathlib.Core.Bool.{true, false, _&&_}
-use mathlib.Core.List.{List, [], _∷_, _++_, map, flatMap, List·Memᴰ·head, List·Memᴰ·tail}
-use native.Mathlib.Nat.{zero-mul, suc-mul, zero-add, add-comm, add-zero, mul-div-cancel, mul-mod-left, mul-add-mod-self-right, mod-eq-of-lt, le-div-iff-mul-le}
+use mathlib.Core.List.{List, [], _∷_, _++_, map, flatMap, append-nil}
+use native.Mathlib.Nat.{suc-mul, zero-add, add-zero, mul-div-cancel, mul-mod-left, mul-add-mod-self-right, mod-eq-of-lt, le-div-iff-mul-le}
 use native.Mathlib.Omega.{arith}
 use native.Mathlib.Decide.{ℕ-discrete, decLt}
 use lib.ListN.{length, getD, take, drop, length-append, length-drop, List·getD-append}
-use lib.Seq.{drop-nil, drop-cons, drop-at, drop-drop, getD-drop, getD-at, take-append-le, drop-append-le}
+use lib.Seq.{drop-cons, drop-drop, getD-drop, getD-at, take-append-le, drop-append-le}
 use lib.Dec.{eqb}
 use borrow.Author.Tests.{eq-eqb, eqb-true}
 use Rattle.fra.specs.Lists.{all, count}
@@ -18,12 +18,13 @@ use Rattle.fra.specs.declared.Task.{Task}
 use Rattle.fra_laws.proofs.Tests.{and-left, and-right, fails-unless}
 use Rattle.fra_laws.proofs.Lists.{all-at, count-intro, count-elim}
 use Rattle.fra_laws.proofs.Order.{before-transitive}
+use Rattle.fra_laws.proofs.Records.{Wide, at-member, records-length, records-from}
 use Rattle.outcome.specs.Bytes.{wordAt}
 use Rattle.outcome.specs.Check.{positionOf, lossFrom, rising, orderly}
 use Rattle.outcome.specs.Refusals.{records}
 use Rattle.outcome_laws.proofs.Bodies.{Whole, Stops}
 use Rattle.checker_laws.specs.Records.{recordCount, bodyFrom, positionAt, lossAt, positions, losses, risesAt, formedAt, formed, Listing}
-use Rattle.checker_laws.proofs.Lists.{by-places, all-both, all-same, all-map, at-member}
+use Rattle.checker_laws.proofs.Lists.{by-places, all-both, all-same, all-map}
 
 -- ── A body decides what is read from it, whatever follows ──
 
@@ -91,28 +92,19 @@ module _ (r w : ℕ) (l : List ℕ) (i : ℕ) where
 -- ── Whole records of one kind ──
 
 module _ (kind size : ℕ) where
-  records-length : (bs : List (List ℕ)) → Whole size bs → length (records kind bs) ≡ length bs * suc size
-  unfolding records flatMap
-  records-length [] w = sym (zero-mul (suc size))
-  records-length (b ∷ bs) w =
-      let e = records-length bs (λ c m. w c (List·Memᴰ·tail m)) in
-      let f = w b (List·Memᴰ·head refl) in
-      rw (suc-mul (length bs) (suc size)) (simp length-append (omega arith))
+  wide : (bs : List (List ℕ)) → Whole size bs → Wide (λ body. kind ∷ body) (suc size) bs
+  wide bs w b m = ap suc (w b m)
 
-  -- the records from record i on
-  records-from : (bs : List (List ℕ)) → Whole size bs → (i : ℕ) → drop (i * suc size) (records kind bs) ≡ records kind (drop i bs)
-  unfolding records flatMap
-  records-from bs w zero = rw (zero-mul (suc size))
-  records-from [] w (suc i) = drop-nil (suc i * suc size)
-  records-from (b ∷ bs) w (suc i) =
-      let e : suc i * suc size ≡ suc size + i * suc size = suc-mul i (suc size) ∙ add-comm (i * suc size) (suc size) in
-      rw (e, ← drop-drop (i * suc size) (suc size) (records kind (b ∷ bs)))
-      (rw (drop-at b (records kind bs) size (w b (List·Memᴰ·head refl))) (records-from bs (λ c m. w c (List·Memᴰ·tail m)) i))
+  length-of-records : (bs : List (List ℕ)) → Whole size bs → length (records kind bs) ≡ length bs * suc size
+  unfolding records
+  length-of-records bs w = records-length (λ body. kind ∷ body) (suc size) bs (wide bs w)
 
   module _ (bs : List (List ℕ)) (w : Whole size bs) (i : ℕ) (h : i < length bs) where
     record-from : drop (i * suc size) (records kind bs) ≡ kind ∷ getD bs i [] ++ records kind (drop (suc i) bs)
     unfolding records flatMap
-    record-from = records-from bs w i ∙ ap (records kind) (drop-cons bs i [] h)
+    record-from =
+        simp append-nil at (records-from (λ body. kind ∷ body) (suc size) bs [] i (wide bs w) (omega arith))
+        ∙ ap (records kind) (drop-cons bs i [] h)
 
     kind-at : getD (records kind bs) (i * suc size) 0 ≡ kind
     kind-at =
@@ -125,7 +117,7 @@ module _ (kind size : ℕ) where
 
   module _ (bs : List (List ℕ)) (w : Whole size bs) where
     counted : recordCount (suc size) (records kind bs) ≡ length bs
-    counted = rw (records-length bs w) (mul-div-cancel (length bs) (omega arith))
+    counted = rw (length-of-records bs w) (mul-div-cancel (length bs) (omega arith))
 
     -- what a body decides is read from each body
     read-each : {A : Type 0} (read : List ℕ → A)
@@ -186,7 +178,7 @@ module _ (r : ℕ) (t : Task) (kind size : ℕ) where
   unfolding formed formedAt
   formed-whole bs w =
       let l = records kind bs in
-      let e : length l % suc size ≡ 0 = rw (records-length kind size bs w) (mul-mod-left (length bs) (suc size)) in
+      let e : length l % suc size ≡ 0 = rw (length-of-records kind size bs w) (mul-mod-left (length bs) (suc size)) in
       rw e
       (all-same (formedAt r t kind (suc size) l) (λ i. legal r t (positionAt r (suc size) l i) && risesAt r (suc size) l i)
       (count 0 (recordCount (suc size) l))
@@ -213,7 +205,7 @@ module _ (r : ℕ) (t : Task) (kind size : ℕ) where
       l = records kind bs ++ b ∷ rest
 
       long : length l ≡ length bs * suc size + suc (length rest)
-      long = length-append (records kind bs) (b ∷ rest) ∙ ap (λ n. n + suc (length rest)) (records-length kind size bs w)
+      long = length-append (records kind bs) (b ∷ rest) ∙ ap (λ n. n + suc (length rest)) (length-of-records kind size bs w)
 
       more : formed r t kind (suc size) l ≡ true → size ≤ length rest
       more h = step (decLt (length rest) size)
@@ -232,7 +224,7 @@ module _ (r : ℕ) (t : Task) (kind size : ℕ) where
           le-div-iff-mul-le {k = suc size} (omega arith) .1 (rw (suc-mul (length bs) (suc size), long) (omega arith)) in
           let e = formed-at l h (length bs) i in
           let f : eqb (getD l (length bs * suc size) 0) kind ≡ true = search and-left in
-          sym (getD-at (records kind bs) b rest 0 (length bs * suc size) (records-length kind size bs w))
+          sym (getD-at (records kind bs) b rest 0 (length bs * suc size) (length-of-records kind size bs w))
           ∙ eqb-true (getD l (length bs * suc size) 0) kind f
 
       stop : Stops kind size b rest → size ≤ length rest → (size ≤ length rest → b ≡ kind) → ⊥

@@ -8,7 +8,7 @@ use mathlib.Core.Option.{Option, none, some}
 use native.Mathlib.Nat.{zero-add, sub-zero}
 use native.Mathlib.Omega.{arith}
 use lib.ListN.{length}
-use Rattle.fra.specs.Lists.{any, all, keep, count, least}
+use Rattle.fra.specs.Lists.{all, keep, count, least}
 use Rattle.fra.specs.Model.{edgeOf}
 use Rattle.fra.specs.Rules.{bisimulation, other, modelOf}
 use Rattle.fra.specs.Position.{filled}
@@ -21,7 +21,7 @@ use Rattle.fra.specs.declared.Side.the-variants.{Left, Right}
 use Rattle.fra.specs.declared.IdCase.the-variants.{Held}
 use Rattle.fra.specs.declared.Attack.{Attack}
 use Rattle.moves.proofs.Lists.{keep-map}
-use Rattle.moves.proofs.IdCases.{casesFrom, all-cases}
+use Rattle.moves.proofs.IdCases.{all-cases}
 use Rattle.moves.proofs.Attacks.{edgeAttacks, attacking, sideAttacks, attacks-by-side}
 use Rattle.replies.specs.Fan.{candidateOf, candidateAt}
 use Rattle.replies.specs.Search.{challengeOf, isAnswer, afterReply, replyAnswer, replyFrom}

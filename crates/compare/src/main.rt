@@ -4,16 +4,15 @@ use libc::STDIN_FILENO;
 use libc::STDOUT_FILENO;
 use outcome::Comparison;
 use outcome::Verdict;
+use outcome::layout::KEPT_WIDTH;
+use outcome::layout::LOST_WIDTH;
+use outcome::layout::POSITION;
+use outcome::layout::ROUNDS;
 ghost use Prim.Native.Nat.{_+_, _≤_};
 ghost use lib.ListN.{length};
 
 // "a task of at most 4,096 bytes"
 const LONGEST_TASK: usize = 4096;
-
-// The bytes of a record of either kind.
-const KEPT: usize = 9;
-
-const LOST: usize = 16;
 
 fn print(text: &[u8]) {
     io::write_all(STDOUT_FILENO, text);
@@ -44,7 +43,7 @@ fn print_kept(certificate: &[u8], at: usize)
     requires { ⌜ at + 9 ≤ length (now certificate) ⌝ }
 {
     print(b"KEPT");
-    print_bytes(certificate, at + 1, at + KEPT);
+    print_bytes(certificate, at + POSITION, at + KEPT_WIDTH);
     print(b"\n");
 }
 
@@ -53,8 +52,8 @@ fn print_lost(certificate: &[u8], at: usize)
     requires { ⌜ at + 16 ≤ length (now certificate) ⌝ }
 {
     print(b"LOST");
-    print_bytes(certificate, at + 1, at + 12);
-    print_number(table::word_at(certificate, at + 12) as u64);
+    print_bytes(certificate, at + POSITION, at + ROUNDS);
+    print_number(table::word_at(certificate, at + ROUNDS) as u64);
     print(b"\n");
 }
 
@@ -62,9 +61,9 @@ fn print_all_kept(certificate: &[u8], size: usize)
     requires { ⌜ size ≤ length (now certificate) ⌝ }
 {
     let mut at = 0;
-    while KEPT <= size - at {
+    while KEPT_WIDTH <= size - at {
         print_kept(certificate, at);
-        at += KEPT;
+        at += KEPT_WIDTH;
     }
 }
 
@@ -72,9 +71,9 @@ fn print_all_lost(certificate: &[u8], size: usize)
     requires { ⌜ size ≤ length (now certificate) ⌝ }
 {
     let mut at = 0;
-    while LOST <= size - at {
+    while LOST_WIDTH <= size - at {
         print_lost(certificate, at);
-        at += LOST;
+        at += LOST_WIDTH;
     }
 }
 

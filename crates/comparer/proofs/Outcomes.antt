@@ -2,25 +2,25 @@
 use Prim.Native.Nat.{ℕ, _+_, _*_, _/_, _^_, _≤_, _<_}
 use mathlib.Core.Path.{_≡_, refl, sym, _∙_, ap, subst}
 use mathlib.Core.Bool.{Bool, true, false}
-use mathlib.Core.List.{List, _++_, map}
+use mathlib.Core.List.{List, _++_}
 use mathlib.Core.Option.{Option, none, some}
 use native.Mathlib.Omega.{arith}
 use lib.ListN.{length, take, drop, length-drop, length-append}
 use lib.Seq.{take-append-seam, drop-append-seam}
 use lib.Dec.{ltb}
-use borrow.Author.Tests.{ltb-false, eq-eqb, ne-eqb}
+use borrow.Author.Tests.{ltb-false, ne-eqb}
 use Rattle.fra.specs.Rules.{bisimulation}
 use Rattle.fra.specs.Reach.{reached, rounds}
 use Rattle.fra.specs.Valid.{Valid}
 use Rattle.fra.specs.declared.Task.{Task}
 use Rattle.task.specs.TaskFile.{readTask}
 use Rattle.task.specs.declared.Answer.the-variants.{Read, Refused as Unread}
-use Rattle.outcome.specs.Bytes.{allOnes, cleared, thenZeros, thenRest}
+use Rattle.outcome.specs.Bytes.{allOnes, cleared, thenZeros}
 use Rattle.outcome.specs.Verdicts.{equality}
 use Rattle.outcome.specs.Certificate.{roundsOrNever, entries}
 use Rattle.outcome.specs.Compare.{Outcome, capacity, decided, refusedLate, judge, compareTask, compareRead, compare}
 use Rattle.outcome.specs.declared.Comparison.{Comparison}
-use Rattle.outcome.specs.declared.Comparison.the-variants.{Decided, Refused}
+use Rattle.outcome.specs.declared.Comparison.the-variants.{Refused}
 use Rattle.outcome_laws.proofs.Written.{rounds-least}
 use Rattle.explore.specs.Answers.{exploredIn, Explores}
 use Rattle.explore.specs.declared.Explored.the-variants.{Count, TooMany}

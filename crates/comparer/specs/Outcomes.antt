@@ -3,15 +3,14 @@
 use Prim.Native.Nat.{ℕ, _*_, _≤_}
 use mathlib.Core.Path.{_≡_}
 use mathlib.Core.Bool.{cond}
-use mathlib.Core.List.{List, map, _++_}
+use mathlib.Core.List.{List, map}
 use mathlib.Core.Option.{Option, none, some}
-use lib.ListN.{length, drop}
+use lib.ListN.{length}
 use lib.Dec.{eqb}
 use Rattle.fra.specs.Rules.{bisimulation}
 use Rattle.fra.specs.Reach.{reached}
 use Rattle.fra.specs.declared.Task.{Task}
 use Rattle.outcome.specs.Bytes.{allOnes}
-use Rattle.outcome.specs.Certificate.{entries}
 use Rattle.outcome.specs.Compare.{Outcome}
 use Rattle.outcome.specs.declared.Comparison.{Comparison}
 use Rattle.table_laws.specs.Keys.{keyOf}

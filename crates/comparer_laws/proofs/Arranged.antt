@@ -2,13 +2,12 @@
 -- laid out they are the rows of those positions. Assumes nothing.
 use Prim.Native.Nat.{ℕ, _*_, _^_, _≤_, _<_}
 use mathlib.Core.Path.{_≡_, refl, sym, _∙_, ap, ap₂}
-use mathlib.Core.Bool.{true}
 use mathlib.Core.List.{List, [], _∷_, _++_, map, flatMap, List·Memᴰ·head, List·Memᴰ·tail, Memᴰ·of-map}
 use native.Mathlib.Omega.{arith}
 use lib.ListN.{length, getD, length-map}
 use Rattle.fra.specs.Lists.{_∈_}
 use Rattle.fra.specs.Rules.{Rules}
-use Rattle.fra.specs.Position.{legal, Rising}
+use Rattle.fra.specs.Position.{Rising}
 use Rattle.fra.specs.Reach.{reached, rank}
 use Rattle.fra.specs.Valid.{Valid}
 use Rattle.fra.specs.declared.Position.{Position}
@@ -16,13 +15,13 @@ use Rattle.fra.specs.declared.Task.{Task}
 use Rattle.fra_laws.proofs.Legal.{legal-facts}
 use Rattle.fra_laws.proofs.Count.{most-positions}
 use Rattle.fra_laws.proofs.Reached.{reached-rising, reached-legal, reached-unique}
+use Rattle.fra_laws.proofs.Records.{at-member, records-length}
 use Rattle.outcome.specs.Bytes.{allOnes}
 use Rattle.outcome.specs.Certificate.{roundsOrNever, entry, entries}
 use Rattle.table_laws.specs.Keys.{keyOf, positionFrom, Small}
 use Rattle.table_laws.specs.Sorted.{sorted, Ascending, Permuted}
 use Rattle.table_laws.specs.Table.{keys, withKeys, row, laidOut}
 use Rattle.table_laws.proofs.Keys.{key-bound, position-of-key, key-rises, legal-small}
-use Rattle.table_laws.proofs.Records.{at-member, records-length}
 use Rattle.table_laws.proofs.Sorted.{ascending-sorted}
 use Rattle.table_laws.proofs.Tables.{keys-of-with}
 use Rattle.table_laws.proofs.Rows.{row-length}

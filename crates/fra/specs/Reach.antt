@@ -1,9 +1,9 @@
 -- 01, "Positions and rounds": "Positions reached are the start and all that attacks and replies lead to." The predicate to
 -- believe is `Reached`; `reached` is the rising list that computes it.
-use Prim.Native.Nat.{ℕ, zero, suc, _+_, _*_, _^_}
-use mathlib.Core.Bool.{Bool, true, false}
+use Prim.Native.Nat.{ℕ, zero, suc, _*_, _^_}
+use mathlib.Core.Bool.{true, false}
 use mathlib.Core.List.{List, [], _∷_, map, flatMap, foldr}
-use mathlib.Core.Option.{Option, none, some}
+use mathlib.Core.Option.{Option}
 use lib.ListN.{length}
 use lib.Dec.{eqb}
 use Rattle.fra.specs.Lists.{_∈_, least}
@@ -12,7 +12,6 @@ use Rattle.fra.specs.Rules.{Rules}
 use Rattle.fra.specs.Game.{attacks, replies, after, lostWithin}
 use Rattle.fra.specs.declared.Position.{Position}
 use Rattle.fra.specs.declared.Task.{Task}
-use Rattle.fra.specs.declared.Attack.{Attack}
 
 -- the start, and what steps lead to from there
 pub data Closure (step : Position → List Position) (start : Position) : Position → Type 0 where

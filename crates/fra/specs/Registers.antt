@@ -1,6 +1,6 @@
 -- Register sets, for any register count: bit 0 is register 1.
 use Prim.Native.Nat.{ℕ, zero, suc, _/_, _%_, _^_}
-use mathlib.Core.Bool.{Bool, true, false, not, _||_}
+use mathlib.Core.Bool.{Bool, false, not, _||_}
 use lib.Dec.{eqb}
 use Rattle.fra.specs.Lists.{all, count}
 

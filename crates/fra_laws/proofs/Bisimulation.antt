@@ -63,11 +63,3 @@ module _ (g : Rules) (r : ℕ) (t : Task) where
       → (p : Position) → p ∈ l → NeverLost g t p
       → Bisimulation g r t (λ q. q ∈ keptMembers g t l) × (p ∈ keptMembers g t l)
   never-lost-in-bisimulation l c h p m never = (kept-bisimulation l c h, kept-never-lost g t l c p .1 (m, never))
-
-  -- so it is never lost exactly if some symbolic bisimulation has it
-  pub never-lost-exactly : (l : List Position) → Closed g t l → ((p : Position) → p ∈ l → legal r t p ≡ true)
-      → (p : Position) → p ∈ l → NeverLost g t p ↔ ((R : Position → Type 0) × Bisimulation g r t R × R p)
-  never-lost-exactly l c h p m = (
-    λ never. let (b, i) = never-lost-in-bisimulation l c h p m never in (_, b, i),
-    λ (R, b, i). bisimulation-never-lost R b p i,
-  )

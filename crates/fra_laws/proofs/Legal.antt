@@ -24,7 +24,7 @@ use Rattle.fra.specs.declared.Side.the-variants.{Left, Right}
 use Rattle.fra.specs.declared.Attack.{Attack}
 use Rattle.fra_laws.proofs.Tests.{and-left, and-right}
 use Rattle.fra_laws.proofs.Lists.{flatMap-elim}
-use Rattle.fra_laws.proofs.Registers.{has-positive, Matching, matching-facts, matching-intro, left-partner-sound, right-of-left, left-of-right, matched-length, matched-matching}
+use Rattle.fra_laws.proofs.Registers.{has-positive, Matching, matching-facts, matching-intro, left-partner-sound, left-of-right, matched-length, matched-matching}
 use Rattle.fra_laws.proofs.Attacks.{attack-at, reply-at}
 
 -- ── Valid models ──
@@ -77,16 +77,6 @@ unfolding partner
 partner-mutual {p = p} l Left i j h e =
     subst (λ k. leftPartner 1 (p .partners) k ≡ i) e (left-of-right (l .matches) i (rw e h))
 partner-mutual {p = p} l Right i j h e = left-partner-sound (p .partners) j i h e
-
--- a register with a partner is filled, and so is its partner
-pub partner-filled : {r : ℕ} {t : Task} {p : Position} → Legal r t p → (s : Side) (i : ℕ) → 1 ≤ i → 1 ≤ partner p s i
-    → (has (filled t p s) i ≡ true) × (has (filled t p (other s)) (partner p s i) ≡ true)
-unfolding partner
-partner-filled l Left i a h = (l .matches .left-has i h, l .matches .right-has i h)
-partner-filled {p = p} l Right i a h =
-    let e = right-of-left (p .partners) i h in
-    let j : ℕ = leftPartner 1 (p .partners) i in
-    (rw e at (l .matches .right-has j (rw e a)), l .matches .left-has j (rw e a))
 
 -- ── Rounds keep positions legal ──
 

@@ -1,9 +1,10 @@
 -- Counting in lists: lengths, lists without duplicates, and the pigeonhole principle. Assumes nothing.
-use Prim.Native.Nat.{ℕ, zero, suc, _*_, _≤_, _<_}
+use Prim.Native.Nat.{ℕ, zero, suc, _+_, _*_, _≤_, _<_}
 use mathlib.Core.Path.{_≡_, refl, sym, _∙_, ap}
 use mathlib.Core.Logic.{_⊎_, inl, inr, ⊎-elim}
 use mathlib.Core.Bool.{Bool, true, false}
-use mathlib.Core.List.{List, [], _∷_, map, flatMap, List·Memᴰ·head, List·Memᴰ·tail, List·Memᴰ·not-nil, List·Memᴰ·cases-cons, Memᴰ·cast, Memᴰ·map, Memᴰ·of-map}
+use mathlib.Core.List.{List, [], _∷_, _++_, map, flatMap, List·Memᴰ·head, List·Memᴰ·tail, List·Memᴰ·not-nil, List·Memᴰ·cases-cons, Memᴰ·cast, Memᴰ·map, Memᴰ·of-map}
+use native.Mathlib.Nat.{add-zero}
 use native.Mathlib.Omega.{arith}
 use lib.ListN.{length, length-append, length-map}
 use Rattle.fra.specs.Lists.{_∈_, Unique, keep, count}
@@ -15,6 +16,16 @@ pub count-length : (i n : ℕ) → length (count i n) ≡ n
 unfolding count
 count-length i zero = refl
 count-length i (suc n) = ap suc (count-length (suc i) n)
+
+pub count-more : (i n : ℕ) → count i (suc n) ≡ count i n ++ ((i + n) ∷ [])
+unfolding count
+count-more i zero = rw (add-zero i)
+count-more i (suc n) =
+    let e : suc i + n ≡ i + suc n = omega arith in rw (← e) (ap (λ (l : List ℕ). i ∷ l) (count-more (suc i) n))
+
+-- the ownership of an array of structs speaks of what its elements are mapped to, which are as many as they
+pub length-of-map : {A B : Type 0} (f : A → B) (l : List A) (n : ℕ) → length (map f l) ≡ n → length l ≡ n
+length-of-map f l n p = sym (length-map l f) ∙ p
 
 pub count-unique : (i n : ℕ) → Unique (count i n)
 unfolding count

@@ -1,6 +1,7 @@
 pub mod Tests
 pub mod Lists
 pub mod Lengths
+pub mod Records
 pub mod Order
 pub mod Closure
 pub mod Registers

@@ -2,15 +2,16 @@
 use Prim.Native.Nat.{ℕ, _<_}
 use mathlib.Core.Path.{_≡_, refl, sym, _∙_, ap₂}
 use mathlib.Core.Logic.{_⊎_, inl, inr}
-use mathlib.Core.Bool.{true, false, _&&_, _||_, false≢true, true≢false}
+use mathlib.Core.Bool.{Bool, true, false, _&&_, _||_, false≢true, true≢false}
 use mathlib.Core.List.{List, [], _∷_}
 use native.Mathlib.Omega.{arith}
 use lib.Dec.{ltb, eqb}
 use borrow.Author.Tests.{ltb-true, ltb-false, eqb-true, lt-ltb, le-ltb, eq-eqb}
-use Rattle.fra.specs.Lists.{below, equal}
-use Rattle.fra.specs.Position.{bytes, before}
+use Rattle.fra.specs.Lists.{below, equal, keep}
+use Rattle.fra.specs.Position.{bytes, before, Rising}
 use Rattle.fra.specs.declared.Position.{Position}
 use Rattle.fra_laws.proofs.Tests.{and-left, and-right, and-intro, or-cases, or-left, or-right, or-false-left, or-false-right, not-both, fails-unless}
+use Rattle.fra_laws.proofs.Lists.{keep-passes, keep-fails, keep-elim}
 
 -- ── equal ──
 
@@ -59,10 +60,6 @@ below-transitive (x ∷ l) (y ∷ m) (z ∷ n) p q =
         or-right (ltb x z) (eqb x z && below l n)
         (and-intro (eqb x z) (below l n) (eq-eqb x z (d ∙ e)) (rest (search and-right) (search and-right)))
 
-pub below-asymmetric : (l m : List ℕ) → below l m ≡ true → below m l ≡ false
-below-asymmetric l m p =
-    fails-unless (below m l) (λ q. not-both (below l l) (below-transitive l m l p q) (below-irreflexive l))
-
 -- two strings neither of which is below the other are the same
 pub below-total : (l m : List ℕ) → below l m ≡ false → below m l ≡ false → l ≡ m
 unfolding below
@@ -108,10 +105,16 @@ pub before-transitive : (p q r : Position) → before p q ≡ true → before q 
 unfolding before
 before-transitive p q r = below-transitive (bytes p) (bytes q) (bytes r)
 
-pub before-asymmetric : (p q : Position) → before p q ≡ true → before q p ≡ false
-unfolding before
-before-asymmetric p q = below-asymmetric (bytes p) (bytes q)
-
 pub before-total : (p q : Position) → before p q ≡ false → before q p ≡ false → p ≡ q
 unfolding before
 before-total p q a b = bytes-injective p q (below-total (bytes p) (bytes q) a b)
+
+-- what is kept of a rising list rises
+pub keep-rising : (f : Position → Bool) (l : List Position) → Rising l → Rising (keep f l)
+unfolding keep
+keep-rising f [] h = tt
+keep-rising f (p ∷ l) (above, rest) = step (f p) refl (keep-rising f l rest)
+  where
+    step : (b : Bool) → f p ≡ b → Rising (keep f l) → Rising (keep f (p ∷ l))
+    step true e r = rw (keep-passes f p l e) (λ q m. above q (keep-elim f q l m .0), r)
+    step false e r = rw (keep-fails f p l e) r

@@ -20,7 +20,7 @@ use Rattle.fra_laws.proofs.Lists.{flatMap-intro}
 use Rattle.fra_laws.proofs.Lengths.{unique-length}
 use Rattle.fra_laws.proofs.Closure.{Computes, closed-computes, closure-keeps, rising-unique}
 use Rattle.fra_laws.proofs.Legal.{legal-facts, successors-legal}
-use Rattle.fra_laws.proofs.Count.{injections, injections-power, legal-count}
+use Rattle.fra_laws.proofs.Count.{injections-power, legal-count}
 
 -- an attack and its reply lead to a successor
 pub successors-intro : (g : Rules) (t : Task) (p : Position) (a : Attack) (k : ℕ) → a ∈ attacks g t p → k ∈ replies t p a
@@ -79,6 +79,3 @@ module _ {r : ℕ} {t : Task} (valid : Valid r t) where
     pub reached-longest : (l : List Position) → Unique l → ((p : Position) → p ∈ l → Reached g t p)
         → length l ≤ length (reached g t)
     reached-longest l u h = unique-length l (reached g t) u (λ p m. reached-exactly p .1 (h p m))
-
-    pub reached-count : length (reached g t) ≤ t .left .«state_count» * t .right .«state_count» * injections r r
-    reached-count = legal-count valid (reached g t) reached-unique reached-legal

@@ -1,7 +1,7 @@
 -- The rounds of a position: its rank, the least count of rounds that is enough, as `rank` finds it. In a closed list no rank
 -- exceeds the count of members, and none is skipped from 1 on. For any rules, task and register count. Assumes nothing.
 use Prim.Native.Nat.{ℕ, zero, suc, _+_, _≤_, _<_}
-use mathlib.Core.Path.{_≡_, refl, sym, _∙_, subst, ap}
+use mathlib.Core.Path.{_≡_, refl, sym, _∙_, ap}
 use mathlib.Core.Logic.{inr, ⊎-elim, _↔_}
 use mathlib.Core.Bool.{Bool, true, false, not}
 use mathlib.Core.List.{List}
@@ -144,20 +144,3 @@ module _ (g : Rules) (t : Task) where
 
     pub rank-at-most-length : (p : Position) → p ∈ l → (k : ℕ) → HasRank g t p k → k ≤ length l
     rank-at-most-length p m k r = rank-least (length l) r (lost-within-length k p m (r .lost))
-
-    -- where a member has rank k + 1 and k is not 0, some member has rank k
-    pub rank-below : (p : Position) → p ∈ l → (k : ℕ) → 1 ≤ k → HasRank g t p (suc k)
-        → (q : Position) × (q ∈ l) × HasRank g t q k
-    rank-below p m k b r = let (a, i, j, d, s) = rank-reply p k b r in (after t p a j, closed p m a i j d, s)
-
-    -- the ranks from 1 to a member's rank all occur
-    pub ranks-occur : (n : ℕ) (p : Position) → p ∈ l → HasRank g t p n
-        → (k : ℕ) → 1 ≤ k → k ≤ n → (q : Position) × (q ∈ l) × HasRank g t q k
-    ranks-occur zero p m r k a b = absurd (omega arith)
-    ranks-occur (suc n) p m r k a b =
-        elim (decLe k n) [
-          | yes d ↦
-              let (q, i, s) = rank-below p m n (omega arith) r in
-              ranks-occur n q i s k a d
-          | no d ↦ (p, m, subst (HasRank g t p) (omega arith) r)
-        ]

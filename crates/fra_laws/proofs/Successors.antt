@@ -153,7 +153,7 @@ compatible-other l s (GloballyFresh i) (GloballyFresh j) g e = e
 
 -- ── Pairs of edges ──
 
-other-other : (s : Side) → other (other s) ≡ s
+pub other-other : (s : Side) → other (other s) ≡ s
 other-other Left = refl
 other-other Right = refl
 

@@ -12,9 +12,9 @@ use Rattle.fra.specs.Model.{setOf, markOf}
 use Rattle.fra.specs.declared.Model.{Model}
 use Rattle.fra.specs.declared.Task.{Task}
 use Rattle.fra_laws.proofs.Lengths.{count-length}
+use Rattle.fra_laws.proofs.Records.{sets-append}
 use Rattle.table_laws.proofs.Tables.{places-length, places-at}
 use Rattle.replies.specs.Fan.{edgeNumbers, candidateOf, candidateAt, Collected}
-use Rattle.replies.proofs.Lists.{sets-append}
 use Rattle.replies.proofs.Fans.{collected-holds}
 use Rattle.index.specs.Index.{tagOf, firstEdge, sideByte, sideBytes, stateTable, edgeTable, EdgesIndexed}
 

@@ -6,7 +6,7 @@ use fra::Model;
 use fra::Position;
 use fra::Side;
 use fra::Task;
-use moves::registers::partner;
+use registers::partners::partner;
 use replies::fan;
 use replies::fan::Candidate;
 use replies::search::Challenge;

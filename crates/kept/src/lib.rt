@@ -13,7 +13,8 @@ use lookup::models::model_of;
 use lookup::models::set_of;
 use moves::cases::CaseFound;
 use moves::cases::next_case;
-use moves::registers::other;
+use outcome::layout::KEPT_WIDTH;
+use registers::partners::other;
 use replies::fan;
 use replies::search::Challenge;
 use replies::search::Reply;
@@ -30,7 +31,7 @@ fn listed(certificate: &[u8], p: Position) -> bool
     requires { ⌜ Listing 6 9 (now certificate) ⌝ }
     ensures { λ r. ⌜ r ≡ listedIn (positions 6 9 (now (certificate .entry))) p ⌝ }
 {
-    let place = search::find(certificate, layout::KEPT_WIDTH, p);
+    let place = search::find(certificate, KEPT_WIDTH, p);
     let Place::At(_) = place else {
         return false;
     };
@@ -159,13 +160,13 @@ pub fn accepted(t: Task, certificate: &[u8]) -> bool
     if !listed(certificate, start) {
         return false;
     }
-    let total = certificate.len() / layout::KEPT_WIDTH;
+    let total = certificate.len() / KEPT_WIDTH;
     let mut i: usize = 0;
     while i < total {
         if !holds(
             t,
             certificate,
-            layout::position_at(certificate, layout::KEPT_WIDTH, i),
+            layout::position_at(certificate, KEPT_WIDTH, i),
         ) {
             return false;
         }

@@ -8,7 +8,7 @@ use fra::Task;
 use marks::Scale;
 use marks::mark;
 use marks::rescale;
-use moves::registers::other;
+use registers::partners::other;
 use replies::fan;
 use replies::search::Reply;
 use replies::search::next_reply;

@@ -1,6 +1,12 @@
-// Where the fields of a record stand, counted from its kind byte.
+// What the fields of a record say.
 use fra::Position;
 use lookup::bytes::below;
+use outcome::layout::CASE;
+use outcome::layout::EDGE;
+use outcome::layout::LOST_WIDTH;
+use outcome::layout::POSITION;
+use outcome::layout::ROUNDS;
+use outcome::layout::SIDE;
 ghost use mathlib.Core.Path.{_≡_};
 ghost use Prim.Native.Nat.{_+_, _*_, _≤_};
 ghost use lib.ListN.{length, drop};
@@ -9,24 +15,6 @@ ghost use Rattle.outcome.specs.Bytes.{wordAt};
 ghost use Rattle.outcome.specs.Check.{positionOf};
 ghost use Rattle.checker_laws.specs.Records.{Present, positionAt, lossAt};
 ghost use Rattle.listing.specs.Losses.{lossOf};
-
-pub const KEPT_KIND: u8 = 16;
-
-pub const KEPT_WIDTH: usize = 9;
-
-pub const LOST_KIND: u8 = 17;
-
-pub const LOST_WIDTH: usize = 16;
-
-pub const POSITION: usize = 1;
-
-pub const SIDE: usize = 9;
-
-pub const EDGE: usize = 10;
-
-pub const CASE: usize = 11;
-
-pub const ROUNDS: usize = 12;
 
 // What a record of kind 17 says.
 pub struct Claim {

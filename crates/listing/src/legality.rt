@@ -4,7 +4,7 @@ use fra::Position;
 use fra::Task;
 use lookup::bytes::contains;
 use lookup::models::set_of;
-use moves::registers::has;
+use registers::partners::has;
 ghost use mathlib.Core.Path.{_≡_};
 ghost use mathlib.Core.Bool.{not, _&&_, _||_};
 ghost use lib.Dec.{eqb};

@@ -1,4 +1,4 @@
-// The records of a proposed certificate (01, "Verdict, table, certificate"): where their fields stand, which positions are
+// The records of a proposed certificate (01, "Verdict, table, certificate"): what their fields say, which positions are
 // legal, the form of a list, and look-ups by halving.
 pub mod formed;
 pub mod layout;

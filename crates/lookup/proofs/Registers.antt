@@ -1,8 +1,8 @@
 -- Register sets of one byte, and a test of every register from one on. Assumes nothing.
-use Prim.Native.Nat.{ℕ, zero, suc, _+_, _-_, _*_, _≤_, _<_, _/_, _%_, _^_}
+use Prim.Native.Nat.{ℕ, zero, suc, _+_, _-_, _*_, _≤_, _<_, _/_, _^_}
 use mathlib.Core.Path.{_≡_, refl}
-use mathlib.Core.Bool.{Bool, true, false, not, _||_, false≢true, or-false}
-use native.Mathlib.Nat.{div-eq-of-lt, le-div-iff-mul-le, one-le-pow, pow-le-pow-right, lt-of-lt-of-le, one-mul}
+use mathlib.Core.Bool.{Bool, true, false, not, _||_, or-false}
+use native.Mathlib.Nat.{div-eq-of-lt, le-div-iff-mul-le, one-le-pow, one-mul}
 use native.Mathlib.Numerals.{add-one}
 use native.Mathlib.Omega.{arith}
 use lib.Dec.{leb, eqb, lit<, eqb·zero-suc}
@@ -10,28 +10,9 @@ use borrow.Author.Tests.{ne-eqb, leb-true, leb-false, lt-leb}
 use Rattle.fra.specs.Lists.{all, count}
 use Rattle.fra.specs.Registers.{has, inside, with}
 use Rattle.fra_laws.proofs.Tests.{or-right}
+use Rattle.registers.proofs.Bits.{below-power}
 
--- ── The registers of a set ──
-
--- one byte is below every power of two from the eighth on
-below-power : (n k : ℕ) → n < 256 → 8 ≤ k → n < 2 ^ k
-below-power n k p q = lt-of-lt-of-le p (pow-le-pow-right {n = 2} (lit< tt) {i = 8} {j = k} q)
-
-pub has-positive : (set i : ℕ) → has set i ≡ true → 1 ≤ i
-unfolding has
-has-positive set zero e = absurd (false≢true e)
-has-positive set (suc i) e = omega arith
-
--- a set of one byte has no register past the eighth
-pub has-none : (set i : ℕ) → set < 256 → 8 < i → has set i ≡ false
-unfolding has
-has-none set zero p q = refl
-has-none set (suc k) p q = rw (div-eq-of-lt (below-power set k p (omega arith)))
-
-pub has-bit : (set i : ℕ) → 0 < i → has set i ≡ eqb (set / 2 ^ (i - 1) % 2) 1
-unfolding has
-has-bit set zero p = absurd (omega arith)
-has-bit set (suc k) p = let e : suc k - 1 ≡ k = omega arith in rw e
+-- ── The bits of a set ──
 
 -- the bits from bit r on are those of the registers past r
 pub overrun : (set r : ℕ) → not (eqb (set / 2 ^ r) 0) ≡ leb (2 ^ r) set

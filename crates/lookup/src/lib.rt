@@ -1,4 +1,4 @@
-// What stands where: bytes of a string, registers of a set, states and edges of a model.
+// What stands where: bytes of a string, registers of one set in another, states and edges of a model.
 pub mod bytes;
 pub mod models;
 pub mod sets;

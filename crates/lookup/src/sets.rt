@@ -1,20 +1,8 @@
-// Register sets: bit 0 is register 1.
+// One register set inside another.
+use registers::partners::has;
 ghost use mathlib.Core.Path.{_≡_};
 ghost use mathlib.Core.Bool.{not, _||_};
 ghost use Rattle.fra.specs.Registers.{has, inside, with};
-
-// The register is in the set.
-pub fn has(set: u8, register: u8) -> bool
-    ensures { λ r. ⌜ r ≡ has set register ⌝ }
-{
-    if register == 0 {
-        return false;
-    }
-    if 8 < register {
-        return false;
-    }
-    (set >> (register - 1)) % 2 == 1
-}
 
 // The register is not in `set`, or is in `other` or is `added`.
 fn kept(set: u8, other: u8, added: u8, register: u8) -> bool

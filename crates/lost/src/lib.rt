@@ -8,6 +8,7 @@ use listing::layout;
 use listing::layout::Claim;
 use listing::search;
 use listing::search::Place;
+use outcome::layout::LOST_WIDTH;
 use replies::fan;
 use replies::search::Challenge;
 use replies::search::Reply;
@@ -83,7 +84,7 @@ fn sooner(certificate: &[u8], p: Position, rounds: u32) -> bool
     requires { ⌜ Listing 6 16 (now certificate) ⌝ }
     ensures { λ r. ⌜ r ≡ soonerIn (losses 6 16 (now (certificate .entry))) rounds p ⌝ }
 {
-    let place = search::find(certificate, layout::LOST_WIDTH, p);
+    let place = search::find(certificate, LOST_WIDTH, p);
     let Place::At(i) = place else {
         return false;
     };
@@ -170,11 +171,11 @@ pub fn accepted(t: Task, certificate: &[u8]) -> bool
     requires { ⌜ Valid 6 t ⌝ }
     ensures { λ r. ⌜ r ≡ lossesAccepted bisimulation t (losses 6 16 (now (certificate .entry))) ⌝ }
 {
-    let place = search::find(certificate, layout::LOST_WIDTH, t.start);
+    let place = search::find(certificate, LOST_WIDTH, t.start);
     let Place::At(_) = place else {
         return false;
     };
-    let total = certificate.len() / layout::LOST_WIDTH;
+    let total = certificate.len() / LOST_WIDTH;
     let mut i: usize = 0;
     while i < total {
         if !holds(t, certificate, layout::claim_at(certificate, i)) {
@@ -190,7 +191,7 @@ pub fn start_rounds(t: Task, certificate: &[u8]) -> u32
     requires { ⌜ Listing 6 16 (now certificate) ⌝ }
     ensures { λ r. ⌜ r ≡ startRounds t (losses 6 16 (now (certificate .entry))) ⌝ }
 {
-    let place = search::find(certificate, layout::LOST_WIDTH, t.start);
+    let place = search::find(certificate, LOST_WIDTH, t.start);
     let Place::At(i) = place else {
         return 0;
     };

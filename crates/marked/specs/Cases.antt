@@ -1,7 +1,7 @@
 -- 01, "Sample pairs": the marked cases, each a call of the comparer and what it must give; and further cases of the same form
 -- for the mistakes that no marked case shows.
-use Prim.Native.Nat.{ℕ, zero, suc}
-use mathlib.Core.Bool.{Bool, true, false, _&&_}
+use Prim.Native.Nat.{ℕ}
+use mathlib.Core.Bool.{Bool, true, _&&_}
 use mathlib.Core.List.{List, [], _∷_, _++_, flatMap}
 use mathlib.Core.Option.{Option, none, some}
 use lib.ListN.{replicate}

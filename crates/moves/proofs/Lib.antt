@@ -1,6 +1,5 @@
 -- Lemmas that the proofs of the functions share, and laws for callers.
 pub mod Lists
-pub mod Partners
 pub mod Matchings
 pub mod Searches
 pub mod IdCases

@@ -1,13 +1,13 @@
 // The id cases of an attack, in order.
-use crate::kinds;
-use crate::registers::has;
-use crate::registers::other;
-use crate::registers::partner;
 use fra::EdgeKind;
 use fra::IdCase;
 use fra::Model;
 use fra::Position;
 use fra::Side;
+use registers::kinds;
+use registers::partners::has;
+use registers::partners::other;
+use registers::partners::partner;
 ghost use mathlib.Core.Path.{_≡_};
 ghost use Rattle.moves.specs.Cases.{caseAt, unpartnered, hasCaseIn, caseFrom};
 

@@ -1,10 +1,10 @@
 // What a round leads to.
-use crate::registers::has;
-use crate::registers::partner;
 use fra::EdgeKind;
 use fra::Model;
 use fra::Position;
 use fra::Side;
+use registers::partners::has;
+use registers::partners::partner;
 ghost use mathlib.Core.Path.{_≡_};
 ghost use Rattle.fra.specs.Game.{rejoined, remaining};
 ghost use Rattle.fra.specs.declared.Side.the-variants.{Left};

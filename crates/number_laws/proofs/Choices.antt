@@ -30,6 +30,7 @@ use Rattle.fra_laws.proofs.Lists.{any-witness, any-none, any-equal, none-equal,
 use Rattle.fra_laws.proofs.Lengths.{count-length}
 use Rattle.fra_laws.proofs.Attacks.{Within, AttackAt, attack-at, is-attack}
 use Rattle.fra_laws.proofs.Legal.{valid-side, registers-exist}
+use Rattle.fra_laws.proofs.Successors.{other-other}
 use Rattle.numbers.specs.Numbers.{Setting, readerOf, Takes, Choice}
 use Rattle.number_laws.proofs.Lists.{outside, pigeonhole}
 use Rattle.number_laws.proofs.Over.{HoldsAt, Lacks, Over, placed, unseen-lacks, partner-holds, not-unpartnered}
@@ -56,10 +57,6 @@ attackOf g t s c d = record { side = c .side; edge = c .edge; case = d }
 -- the number of a choice stands in the id case
 abbrev pub Chosen : (g : Rules) (t : Task) (s : Setting) → Choice g t s → IdCase → Type 0
 Chosen g t s c d = InCase t s (c .side) (registerOf (edgeOf (modelOf t (c .side)) (c .edge) .kind)) (c .number) d
-
-other-other : (σ : Side) → other (other σ) ≡ σ
-other-other Left = refl
-other-other Right = refl
 
 module _ (r : ℕ) (t : Task) (v : Valid r t) (s : Setting) (p : Position) (o : Over r t s p) where
   -- a register that holds a number is one of the r

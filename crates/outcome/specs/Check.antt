@@ -1,12 +1,12 @@
 -- 01, "Verdict, table, certificate" and "Turned back": the outcome of a checker call on a task's bytes and a proposed
 -- certificate.
-use Prim.Native.Nat.{ℕ, zero, suc, _+_, _-_}
-use mathlib.Core.Bool.{Bool, true, false, not, cond, _&&_, _||_}
+use Prim.Native.Nat.{ℕ, zero, suc, _+_}
+use mathlib.Core.Bool.{Bool, true, false, not, cond, _&&_}
 use mathlib.Core.List.{List, [], _∷_, map}
 use mathlib.Core.Option.{Option, none, some}
 use lib.ListN.{length, getD, take, drop}
 use lib.Dec.{ltb, leb, eqb}
-use Rattle.fra.specs.Lists.{any, all, first, equal}
+use Rattle.fra.specs.Lists.{any, all, equal}
 use Rattle.fra.specs.Position.{legal, bytes, before}
 use Rattle.fra.specs.Rules.{Rules}
 use Rattle.fra.specs.Game.{isAttack, attacks, replies, after, lostAtOnce}

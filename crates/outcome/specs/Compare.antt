@@ -1,7 +1,7 @@
 -- 01, "Verdict, table, certificate" and "Turned back": the outcome of a comparer call, from the task's bytes, the table and
 -- the certificate buffer at entry to the answer and both buffers at exit.
-use Prim.Native.Nat.{ℕ, zero, suc, _/_}
-use mathlib.Core.Bool.{Bool, true, false}
+use Prim.Native.Nat.{ℕ, _/_}
+use mathlib.Core.Bool.{true, false}
 use mathlib.Core.List.{List}
 use mathlib.Core.Option.{Option, none, some}
 use lib.ListN.{length}

@@ -1,6 +1,5 @@
 -- Verdicts and answers, with 01's numbers for each of their cases.
 use Prim.Native.Nat.{ℕ}
-use mathlib.Core.Bool.{Bool, true, false}
 use Rattle.fra.specs.Rules.{Rules, bisimulation}
 use Rattle.outcome.specs.declared.Verdict.{Verdict}
 use Rattle.outcome.specs.declared.Verdict.the-variants.{Equal, Differ}

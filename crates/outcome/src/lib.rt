@@ -1,4 +1,5 @@
 // What a comparison and a certificate check answer (01, "Verdict, table, certificate").
+pub mod layout;
 
 pub enum Verdict {
     Equal,

@@ -17,7 +17,6 @@ use Rattle.outcome.specs.Bytes.{cleared, thenZeros, thenRest}
 use Rattle.outcome.specs.Verdicts.{Contest}
 use Rattle.outcome.specs.Certificate.{entries, certificateBy}
 use Rattle.outcome.specs.Compare.{Outcome, capacity, decided, refusedLate, judge, compareTask}
-use Rattle.outcome.specs.declared.Comparison.{Comparison}
 use Rattle.outcome.specs.declared.Comparison.the-variants.{Decided, Refused}
 use Rattle.outcome.specs.declared.Verdict.{Verdict}
 use Rattle.outcome.specs.Refusals.{TableTooSmall, CertificateTooLong}
@@ -170,15 +169,3 @@ module _ (c : Contest) (t : Task) (table buffer : List ℕ) where
         from (too-long h l) (inr (d, fits, long)) = ap (λ (k : ℕ). Refused k) (sym d)
         from (verdict h l) (inl (d, small)) = let s = too-small-exactly .1 small in absurd (omega arith)
         from (verdict h l) (inr (d, fits, long)) = absurd (omega arith)
-
-    -- a comparison that is not refused gives a verdict
-    pub decided-otherwise : ((n : ℕ) → Late n → ⊥)
-        → (v : Verdict) × (positions : ℕ) × (n : ℕ) × (size : ℕ)
-        × (compareTask c t table buffer .answer ≡ Decided v positions n size)
-    decided-otherwise open-case = by (compareTask c t table buffer .answer) refl
-      where
-        by : (a : Comparison) → compareTask c t table buffer .answer ≡ a
-            → (v : Verdict) × (positions : ℕ) × (n : ℕ) × (size : ℕ)
-            × (compareTask c t table buffer .answer ≡ Decided v positions n size)
-        by (Decided v positions n size) e = (v, positions, n, size, e)
-        by (Refused n) e = absurd (open-case n (refused-exactly n .0 e))

@@ -11,7 +11,6 @@ use Rattle.fra.specs.Rules.{Rules}
 use Rattle.fra.specs.Game.{lostWithin}
 use Rattle.fra.specs.declared.Position.{Position}
 use Rattle.fra.specs.declared.Task.{Task}
-use Rattle.fra_laws.proofs.Tests.{not-both}
 use Rattle.fra_laws.proofs.Lost.{NeverLost, lost-at-once, lost-step, lost-within-more}
 use Rattle.fra_laws.proofs.Bisimulation.{bisimulation-never-lost}
 use Rattle.outcome.specs.Certificate.{Loss}
@@ -50,9 +49,3 @@ module _ (g : Rules) (t : Task) where
   pub listed-start-lost : (l : List Loss) → LostCondition g t l
       → (x : Loss) → x ∈ l → x .position ≡ t .start → lostWithin g t (x .rounds) (t .start) ≡ true
   listed-start-lost l c x m e = rw e at (listed-lost l c x m)
-
-  -- no task has a certificate of each kind
-  pub not-kept-and-lost : (r : ℕ) (l : List Position) → KeptCondition g r t l → (m : List Loss) → LostCondition g t m → ⊥
-  not-kept-and-lost r l kept m lost =
-      let (x, i, e) = lost .start in
-      not-both _ (listed-start-lost m lost x i e) (kept-start-never-lost r l kept (x .rounds))

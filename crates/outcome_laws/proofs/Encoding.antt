@@ -1,9 +1,8 @@
 -- A position and a loss are what is decoded from their bytes, and bytes are those of what is decoded from them.
 -- Assumes nothing.
-use Prim.Native.Nat.{ℕ, zero, suc, _+_, _*_, _/_, _%_, _^_, _≤_, _<_}
-use mathlib.Core.Path.{_≡_, refl, sym, _∙_}
+use Prim.Native.Nat.{ℕ, zero, suc, _+_, _^_, _≤_, _<_}
+use mathlib.Core.Path.{_≡_, refl, _∙_}
 use mathlib.Core.List.{List, [], _∷_, _++_, append-nil, List·Memᴰ·head, List·Memᴰ·tail}
-use native.Mathlib.Nat.{div-add-mod', div-div-eq-div-mul}
 use native.Mathlib.Omega.{arith}
 use lib.ListN.{length, getD, take, drop, length-append, take-append-drop, drop-of-length-le}
 use lib.Seq.{take-at, take-all, drop-cons, getD-append-add}
@@ -13,6 +12,7 @@ use Rattle.fra.specs.declared.Position.{Position}
 use Rattle.outcome.specs.Bytes.{word, wordAt}
 use Rattle.outcome.specs.Certificate.{Loss}
 use Rattle.outcome.specs.Check.{positionOf, lossFrom, keptLength, lossLength}
+use Rattle.outcome_laws.proofs.Words.{word-value, word-bound, word-bytes}
 
 -- numbers that are bytes
 abbrev pub Bytes : List ℕ → Type 0
@@ -23,33 +23,9 @@ byte-at [] h i = omega arith
 byte-at (b ∷ l) h zero = h b (List·Memᴰ·head refl)
 byte-at (b ∷ l) h (suc i) = byte-at l (λ c m. h c (List·Memᴰ·tail m)) i
 
--- ── Words of four bytes ──
-
--- what a number has above one digit is what it has above the next, and that digit
-digit : (n m : ℕ) → n / m ≡ n / (m * 256) * 256 + n / m % 256
-digit n m = rw (← div-div-eq-div-mul n m 256) (sym (div-add-mod' (n / m) 256))
-
 word-decoded : (n : ℕ) → n < 2 ^ 32 → wordAt (word n) 0 ≡ n
 unfolding word wordAt
-word-decoded n h = omega (arith, digit n 1, digit n 256, digit n 65536)
-
-module _ (l : List ℕ) (h : Bytes l) (i : ℕ) where
-  word-encoded : word (wordAt l i) ≡ getD l i 0 ∷ getD l (i + 1) 0 ∷ getD l (i + 2) 0 ∷ getD l (i + 3) 0 ∷ []
-  unfolding word wordAt
-  word-encoded =
-      let p = byte-at l h (i + 1) in
-      let q = byte-at l h (i + 2) in
-      let r = byte-at l h (i + 3) in
-      let s = byte-at l h i in
-      let w : wordAt l i / 2 ^ 24 % 256 ≡ getD l i 0 = omega arith in
-      let x : wordAt l i / 2 ^ 16 % 256 ≡ getD l (i + 1) 0 = omega arith in
-      let y : wordAt l i / 2 ^ 8 % 256 ≡ getD l (i + 2) 0 = omega arith in
-      let z : wordAt l i % 256 ≡ getD l (i + 3) 0 = omega arith in
-      cc
-
-  word-bound : wordAt l i < 2 ^ 32
-  unfolding wordAt
-  word-bound = omega (arith, byte-at l h i, byte-at l h (i + 1), byte-at l h (i + 2), byte-at l h (i + 3))
+word-decoded n h = word-value n h
 
 -- ── Bodies ──
 
@@ -87,7 +63,7 @@ module _ (r : ℕ) where
       at : (n k : ℕ) → k ≡ r + 2 + n → getD (bytes p ++ s ∷ e ∷ c ∷ w) k 0 ≡ getD (s ∷ e ∷ c ∷ w) n 0
       at n k i = let j : k ≡ length (bytes p) + n = omega arith in rw j (getD-append-add (bytes p) (s ∷ e ∷ c ∷ w) n 0)
 
-  position-bytes : (body : List ℕ) → 2 ≤ length body → bytes (positionOf r body) ≡ take (r + 2) body
+  pub position-bytes : (body : List ℕ) → 2 ≤ length body → bytes (positionOf r body) ≡ take (r + 2) body
   unfolding positionOf bytes
   position-bytes [] h = absurd (omega arith)
   position-bytes (a ∷ []) h = absurd (omega arith)
@@ -127,7 +103,7 @@ module _ (r : ℕ) where
           next (r + 2) (r + 3) (omega arith) (omega arith),
           next (r + 3) (r + 4) (omega arith) (omega arith),
           next (r + 4) (r + 5) (omega arith) (omega arith),
-          word-encoded body h (r + 5),
+          word-bytes body (r + 5) (byte-at body h),
           next (r + 5) (r + 5 + 1) (omega arith) (omega arith),
           next (r + 5 + 1) (r + 5 + 2) (omega arith) (omega arith),
           next (r + 5 + 2) (r + 5 + 3) (omega arith) (omega arith),
@@ -140,4 +116,4 @@ module _ (r : ℕ) where
 
     pub decoded-rounds : lossFrom r body .rounds < 2 ^ 32
     unfolding lossFrom wordAt
-    decoded-rounds = word-bound body h (r + 5)
+    decoded-rounds = word-bound body (r + 5) (byte-at body h)

@@ -2,6 +2,7 @@ pub mod Tests
 pub mod Bodies
 pub mod Orderly
 pub mod Accepted
+pub mod Words
 pub mod Encoding
 pub mod Malformed
 pub mod Check

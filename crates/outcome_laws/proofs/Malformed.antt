@@ -11,7 +11,6 @@ use native.Mathlib.Decide.{ℕ-discrete}
 use lib.ListN.{length}
 use borrow.Author.Tests.{eq-eqb, ne-eqb}
 use Rattle.fra.specs.Lists.{any, all}
-use Rattle.fra.specs.Position.{legal}
 use Rattle.fra.specs.declared.Task.{Task}
 use Rattle.outcome.specs.Verdicts.{Contest, kindOf}
 use Rattle.outcome.specs.Certificate.{Loss}

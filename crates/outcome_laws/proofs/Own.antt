@@ -1,39 +1,28 @@
 -- Whatever certificate a comparison writes, the checker accepts it, with the same verdict and rounds. Assumes nothing.
-use Prim.Native.Nat.{ℕ, _≤_, _<_, _^_}
+use Prim.Native.Nat.{ℕ, _<_, _^_}
 use mathlib.Core.Path.{_≡_, refl, sym, _∙_, ap, ap₂, subst}
 use mathlib.Core.Logic.{_≢_}
-use mathlib.Core.Bool.{Bool, true, false}
-use mathlib.Core.List.{List, [], _∷_, map, map-map, List·Memᴰ·head, Memᴰ·map, Memᴰ·of-map}
-use mathlib.Core.Option.{Option, none, some}
+use mathlib.Core.Bool.{true}
+use mathlib.Core.List.{List, [], _∷_, map, map-map, Memᴰ·map, Memᴰ·of-map}
+use mathlib.Core.Option.{none, some}
 use native.Mathlib.Omega.{arith}
 use lib.ListN.{length}
-use Rattle.fra.specs.Lists.{_∈_, keep}
+use Rattle.fra.specs.Lists.{_∈_}
 use Rattle.fra.specs.Rules.{Rules}
-use Rattle.fra.specs.Position.{before, legal, Rising}
+use Rattle.fra.specs.Position.{legal}
 use Rattle.fra.specs.Reach.{begin, reached, rank, rounds}
 use Rattle.fra.specs.Valid.{Valid}
 use Rattle.fra.specs.declared.Position.{Position}
 use Rattle.fra.specs.declared.Task.{Task}
-use Rattle.fra_laws.proofs.Lists.{keep-passes, keep-fails, keep-elim}
-use Rattle.fra_laws.proofs.Reached.{reached-start, reached-rising, reached-legal}
+use Rattle.fra_laws.proofs.Reached.{reached-rising, reached-legal}
 use Rattle.fra_laws.proofs.Rounds.{rank-exactly}
+use Rattle.fra_laws.proofs.Order.{keep-rising}
 use Rattle.outcome.specs.Verdicts.{Contest, kindOf}
 use Rattle.outcome.specs.Certificate.{Loss, isNever, roundsOrNever, keptPositions, lossOf, losses, certificateBy}
 use Rattle.outcome.specs.Check.{checkTask}
-use Rattle.outcome.specs.declared.Check.{Check}
 use Rattle.outcome.specs.declared.Check.the-variants.{Accepted}
-use Rattle.outcome_laws.proofs.Written.{rounds-never, rounds-least, listed, listed-computes, listed-lost, loss-position, loss-rounds, kept-condition, lost-condition}
-use Rattle.outcome_laws.proofs.Check.{placeOf, Accepts, accepts-kept, accepts-lost, check-accepts}
-
--- what is kept of a rising list rises
-keep-rising : (f : Position → Bool) (l : List Position) → Rising l → Rising (keep f l)
-unfolding keep
-keep-rising f [] h = tt
-keep-rising f (p ∷ l) (above, rest) = step (f p) refl (keep-rising f l rest)
-  where
-    step : (b : Bool) → f p ≡ b → Rising (keep f l) → Rising (keep f (p ∷ l))
-    step true e r = rw (keep-passes f p l e) (λ q m. above q (keep-elim f q l m .0), r)
-    step false e r = rw (keep-fails f p l e) r
+use Rattle.outcome_laws.proofs.Written.{rounds-never, listed, listed-computes, listed-lost, loss-position, loss-rounds, kept-condition, lost-condition}
+use Rattle.outcome_laws.proofs.Check.{placeOf, accepts-kept, accepts-lost, check-accepts}
 
 -- a function that leaves each element as it is leaves the list
 map-same : {A : Type 0} (f : A → A) (l : List A) → ((a : A) → f a ≡ a) → map f l ≡ l

@@ -1,33 +1,30 @@
 -- What the product promises, demand by demand, on the public definitions: bytes and buffers in, answer and buffers out.
 -- Assumes nothing.
-use Prim.Native.Nat.{ℕ, suc, _≤_, _<_}
+use Prim.Native.Nat.{ℕ, _≤_}
 use mathlib.Core.Path.{_≡_, refl, sym, _∙_, ap, subst}
 use mathlib.Core.Logic.{_⊎_, inl, inr, ⊎-elim, _↔_, _≢_}
 use mathlib.Core.Bool.{true}
 use mathlib.Core.List.{List}
-use mathlib.Core.Option.{Option, none, some}
 use native.Mathlib.Omega.{arith}
-use lib.ListN.{length, take}
-use Rattle.fra.specs.Rules.{Rules, bisimulation}
+use lib.ListN.{take}
+use Rattle.fra.specs.Rules.{bisimulation}
 use Rattle.fra.specs.Game.{lostWithin, Bisimulation}
 use Rattle.fra.specs.Lists.{_∈_}
 use Rattle.fra.specs.Reach.{reached}
 use Rattle.fra.specs.declared.Position.{Position}
-use Rattle.fra.specs.declared.Task.{Task}
 use Rattle.task.specs.TaskFile.{readTask, maxRegisters}
 use Rattle.task.specs.Records.{TurnedBack}
 use Rattle.task.specs.declared.Answer.{Answer}
 use Rattle.task.specs.declared.Answer.the-variants.{Read, Refused as Unread}
 use Rattle.outcome.specs.Bytes.{cleared}
 use Rattle.outcome.specs.Verdicts.{equality, kindOf}
-use Rattle.outcome.specs.Compare.{Outcome, compareTask, compare}
+use Rattle.outcome.specs.Compare.{Outcome, compare}
 use Rattle.outcome.specs.Check.{checkTask, check}
 use Rattle.outcome.specs.Refusals.{TableTooSmall, CertificateTooLong, Malformed, NotAccepted}
 use Rattle.outcome.specs.declared.Verdict.{Verdict}
 use Rattle.outcome.specs.declared.Verdict.the-variants.{Equal, Differ}
 use Rattle.outcome.specs.declared.Comparison.{Comparison}
 use Rattle.outcome.specs.declared.Comparison.the-variants.{Decided, Refused}
-use Rattle.outcome.specs.declared.Check.{Check}
 use Rattle.outcome.specs.declared.Check.the-variants.{Accepted, Refused as Rejected}
 use Rattle.numbers.specs.Numbers.{Setting, Opening, Enough, LeastEnough}
 use Rattle.fra_laws.proofs.Tests.{not-both}
@@ -40,7 +37,7 @@ use Rattle.task_laws.proofs.Refusals.{refused-exactly as unread-exactly}
 use Rattle.outcome_laws.proofs.Written.{reached-closed}
 use Rattle.outcome_laws.proofs.Compare.{Says, refused-exactly, late-outcome}
 use Rattle.outcome_laws.proofs.Encoding.{Bytes}
-use Rattle.outcome_laws.proofs.Check.{Accepts, accepts-kept, accepts-lost, check-accepts, check-accepted, check-refused}
+use Rattle.outcome_laws.proofs.Check.{Accepts, accepts-kept, accepts-lost, check-accepted, check-refused}
 use Rattle.outcome_laws.proofs.Conditions.{kept-start-never-lost, listed-start-lost}
 use Rattle.outcome_laws.proofs.Own.{own-kept, own-lost}
 use Rattle.number_laws.proofs.Agreement.{opening-exists, enough-iff-lost, least-enough-iff-first-lost, never-enough-iff-never-lost}

@@ -1,9 +1,8 @@
 -- What a verdict on a task's bytes says of the task that they hold. Assumes nothing.
-use Prim.Native.Nat.{ℕ, suc, _≤_, _<_, _^_}
+use Prim.Native.Nat.{ℕ, _≤_, _<_, _^_}
 use mathlib.Core.Path.{_≡_, refl, sym, _∙_, ap}
-use mathlib.Core.Logic.{_⊎_, inl, inr, ⊎-elim, _↔_}
+use mathlib.Core.Logic.{_⊎_, inl, inr, ⊎-elim}
 use mathlib.Core.List.{List}
-use mathlib.Core.Option.{Option, none, some}
 use native.Mathlib.Omega.{arith}
 use lib.ListN.{length, take, drop}
 use lib.Seq.{take-at}
@@ -22,9 +21,7 @@ use Rattle.outcome.specs.Certificate.{certificateBy}
 use Rattle.outcome.specs.Compare.{Outcome, compareTask, compareRead, compare}
 use Rattle.outcome.specs.Check.{checkTask, checkRead, check}
 use Rattle.outcome.specs.declared.Verdict.{Verdict}
-use Rattle.outcome.specs.declared.Check.{Check}
 use Rattle.outcome.specs.declared.Check.the-variants.{Refused as Rejected}
-use Rattle.outcome.specs.declared.Comparison.{Comparison}
 use Rattle.outcome.specs.declared.Comparison.the-variants.{Decided, Refused}
 use Rattle.fra_laws.proofs.Count.{most-positions}
 use Rattle.fra_laws.proofs.Reached.{reached-unique, reached-legal}

@@ -28,10 +28,10 @@ use Rattle.fra_laws.proofs.Lengths.{flatMap-length}
 use Rattle.fra_laws.proofs.Legal.{legal-facts}
 use Rattle.fra_laws.proofs.Reached.{reached-rising, reached-after, reached-legal}
 use Rattle.fra_laws.proofs.Rounds.{Closed, rank-some}
+use Rattle.fra_laws.proofs.Records.{at-member, member-place}
 use Rattle.outcome.specs.Bytes.{word, allOnes}
 use Rattle.outcome.specs.Certificate.{roundsOrNever, entry, entries, chosen}
 use Rattle.table_laws.specs.Table.{row, positionAt}
-use Rattle.table_laws.proofs.Records.{at-member, member-place}
 use Rattle.table_laws.proofs.Rows.{row-length}
 use Rattle.table_laws.proofs.Search.{rising-at}
 use Rattle.table.specs.Places.{placeOf}

@@ -26,9 +26,9 @@ use Rattle.fra.specs.declared.Side.{Side}
 use Rattle.fra_laws.proofs.Tests.{and-intro}
 use Rattle.fra_laws.proofs.Reached.{reached-successor, reached-legal}
 use Rattle.fra_laws.proofs.Successors.{successors-by-pairs}
+use Rattle.fra_laws.proofs.Records.{member-place}
 use Rattle.outcome.specs.Bytes.{allOnes}
 use Rattle.table_laws.specs.Table.{positionAt}
-use Rattle.table_laws.proofs.Records.{member-place}
 use Rattle.rank_laws.specs.Levels.{level}
 use Rattle.rank_laws.specs.Rows.{rows, roundsAt}
 use Rattle.rank_laws.specs.Pairs.{pairOf, hasPair, withPair, withPairs, between, lostPairs, leadsInto, sources, Covers, CoversLost}

@@ -5,7 +5,7 @@ use mathlib.Core.Logic.{inl, inr}
 use mathlib.Core.List.{List, map}
 use native.Mathlib.Omega.{arith}
 use native.Mathlib.Decide.{decLe}
-use lib.ListN.{length, getD, take, drop, length-take, length-drop}
+use lib.ListN.{getD, take, drop, length-take, length-drop}
 use lib.Seq.{length-sets, getD-take, getD-drop, ext-getD}
 use Rattle.fra.specs.Lists.{count}
 use Rattle.outcome.specs.Check.{positionOf}

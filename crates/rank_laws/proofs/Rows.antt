@@ -11,10 +11,10 @@ use lib.Seq.{sets, sets-eq, take-at, drop-cons, drop-drop, getD-append-add, ext-
 use Rattle.fra.specs.Lists.{_∈_}
 use Rattle.fra.specs.Position.{bytes, unmatched}
 use Rattle.fra.specs.declared.Position.{Position}
+use Rattle.fra_laws.proofs.Records.{Wide, at-member, records-length, records-from, record-write}
 use Rattle.outcome.specs.Bytes.{word, wordAt}
 use Rattle.outcome.specs.Check.{positionOf}
 use Rattle.table_laws.specs.Table.{putWord, row, positionAt, positions}
-use Rattle.table_laws.proofs.Records.{Wide, at-member, records-length, records-from, record-write}
 use Rattle.table_laws.proofs.Rows.{row-length}
 use Rattle.table_laws.proofs.Search.{positions-length, positions-at}
 use Rattle.table_laws.proofs.Words.{word-from, word-drop}

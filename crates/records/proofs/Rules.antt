@@ -17,8 +17,9 @@ use Rattle.fra.specs.declared.Model.{Model}
 use Rattle.fra.specs.declared.Task.{Task}
 use Rattle.fra.specs.declared.EdgeKind.the-variants.{Known, GloballyFresh}
 use Rattle.fra_laws.proofs.Tests.{passes-unless}
+use Rattle.fra_laws.proofs.Registers.{has-positive}
 use Rattle.task.specs.TaskFile.{kindOf, edgeOfBody, edgeExists, keepsRule, rises, edgeRefusal, rising, pairRefusal}
-use Rattle.lookup.proofs.Registers.{has-positive, add-nothing}
+use Rattle.lookup.proofs.Registers.{add-nothing}
 use Rattle.records.specs.Ruled.{ruled}
 
 -- ── Edges ──

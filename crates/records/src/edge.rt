@@ -7,6 +7,7 @@ use fra::Side;
 use lookup::bytes;
 use lookup::models;
 use lookup::sets;
+use registers::partners::has;
 use task::Progress;
 use task::Stage;
 use task::Stepped;
@@ -74,7 +75,7 @@ fn keeps_rule(registers: u8, from: u8, to: u8, kind: EdgeKind) -> bool
     ensures { λ r. ⌜ r ≡ keepsRule registers from to kind ⌝ }
 {
     match kind {
-        EdgeKind::Known(i) => sets::has(from, i) && sets::inside(registers, to, from, 0),
+        EdgeKind::Known(i) => has(from, i) && sets::inside(registers, to, from, 0),
         EdgeKind::LocallyFresh(i) => sets::inside(registers, to, from, i),
         EdgeKind::GloballyFresh(i) => sets::inside(registers, to, from, i),
     }

@@ -5,7 +5,7 @@ use fra::Side;
 use fra::Task;
 use lookup::bytes;
 use lookup::models;
-use lookup::sets;
+use registers::partners::has;
 use task::Progress;
 use task::Stage;
 use task::Stepped;
@@ -32,7 +32,7 @@ fn rising(partners: [u8; 6], left: u8) -> bool
 fn held(m: Model, register: u8) -> bool
     ensures { λ r. ⌜ r ≡ has (setOf m (m .start)) register ⌝ }
 {
-    sets::has(models::set_of(m, m.start), register)
+    has(models::set_of(m, m.start), register)
 }
 
 fn refusal(t: Task, left: u8, right: u8) -> u8

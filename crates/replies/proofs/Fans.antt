@@ -15,7 +15,8 @@ use Rattle.fra.specs.declared.EdgeKind.the-variants.{Known, LocallyFresh, Globa
 use Rattle.fra.specs.declared.Model.{Model}
 use Rattle.replies.specs.Fan.{startsWith, candidateOf, candidateBytes, fanBytes, Collected, kindOf, candidateIn, candidateAt}
 use Rattle.fra_laws.proofs.Lengths.{flatMap-length}
-use Rattle.replies.proofs.Lists.{keep-count-passes, keep-count-fails, flatMap-append, flatMap-at, sets-append, getD-sets}
+use Rattle.fra_laws.proofs.Records.{sets-append}
+use Rattle.replies.proofs.Lists.{keep-count-passes, keep-count-fails, flatMap-append, flatMap-at, getD-sets}
 
 -- ── Collecting ──
 

@@ -1,23 +1,17 @@
 -- Lists of kept numbers and of strings of one length, and five bytes written in a row. Assumes nothing.
 use Prim.Native.Nat.{ℕ, zero, suc, _+_, _*_, _≤_, _<_}
-use mathlib.Core.Path.{_≡_, refl, ap, sym, _∙_}
+use mathlib.Core.Path.{_≡_, refl, _∙_}
 use mathlib.Core.Bool.{Bool, true, false}
-use mathlib.Core.List.{List, [], _∷_, _++_, map, flatMap, append-assoc, append-nil}
+use mathlib.Core.List.{List, [], _∷_, _++_, flatMap, append-assoc, append-nil}
 use native.Mathlib.Numerals.{add-one}
-use native.Mathlib.Nat.{zero-add, add-zero}
+use native.Mathlib.Nat.{zero-add}
 use native.Mathlib.Omega.{arith}
-use lib.ListN.{length, getD, drop, set, length-map, List·getD-append}
+use lib.ListN.{length, getD, drop, set, List·getD-append}
 use lib.Seq.{sets, sets-eq, getD-append-add}
 use Rattle.fra.specs.Lists.{keep, count}
 use Rattle.fra_laws.proofs.Lists.{keep-passes, keep-fails}
+use Rattle.fra_laws.proofs.Lengths.{count-more}
 use Rattle.moves.proofs.Lists.{keep-append}
-
--- one number more
-pub count-more : (i n : ℕ) → count i (suc n) ≡ count i n ++ ((i + n) ∷ [])
-unfolding count
-count-more i zero = rw (add-zero i)
-count-more i (suc n) =
-    let e : suc i + n ≡ i + suc n = omega arith in rw (← e) (ap (λ (l : List ℕ). i ∷ l) (count-more (suc i) n))
 
 module _ (f : ℕ → Bool) (k : ℕ) where
   -- the numbers below k + 1 that are kept
@@ -47,17 +41,6 @@ module _ {A B : Type 0} (f : A → List B) where
   flatMap-at n c d h (x ∷ l) (suc i) k p q =
       let e : n * suc i + k ≡ length (f x) + (n * i + k) = omega (arith, h x) in
       rw e (getD-append-add (f x) (flatMap f l) (n * i + k) d ∙ flatMap-at n c d h l i k (omega arith) q)
-
--- what owning an array tells is said of what its elements are mapped to, which are as many as they
-pub length-of-map : {A B : Type 0} (f : A → B) (l : List A) (n : ℕ) → length (map f l) ≡ n → length l ≡ n
-length-of-map f l n p = sym (length-map l f) ∙ p
-
--- bytes written behind others
-pub sets-append : (l : List ℕ) (i : ℕ) (a b : List ℕ) → sets l i (a ++ b) ≡ sets (sets l i a) (i + length a) b
-sets-append l i [] b = rw (add-zero i)
-sets-append l i (x ∷ a) b =
-    let e : suc i + length a ≡ i + suc (length a) = omega arith in
-    sets-append (set l i x) (suc i) a b ∙ rw e
 
 -- what is read of bytes that were written from the start
 pub getD-sets : (l vs : List ℕ) (i : ℕ) → length vs ≤ length l → i < length vs → getD (sets l 0 vs) i 0 ≡ getD vs i 0

@@ -1,7 +1,6 @@
 pub mod Digits
 pub mod Keys
 pub mod Words
-pub mod Records
 pub mod Sorted
 pub mod Tables
 pub mod Rows

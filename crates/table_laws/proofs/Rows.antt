@@ -3,24 +3,19 @@ use Prim.Native.Nat.{ℕ, zero, suc, _+_, _*_, _^_, _≤_, _<_}
 use mathlib.Core.Path.{_≡_, refl, sym, _∙_, ap, ap₂}
 use mathlib.Core.List.{List, [], _∷_, _++_, flatMap, append-assoc, append-nil}
 use native.Mathlib.Omega.{arith}
-use native.Mathlib.Nat.{add-zero, add-suc, suc-add}
-use lib.ListN.{length, getD, set, drop, length-append, length-drop}
+use lib.ListN.{length, getD, drop, length-append, length-drop}
 use lib.Seq.{take-all, sets, sets-eq, take-at, drop-at, drop-drop}
 use Rattle.fra.specs.Lists.{count}
 use Rattle.fra.specs.Position.{bytes}
 use Rattle.fra.specs.declared.Position.{Position}
+use Rattle.fra_laws.proofs.Records.{records-length, sets-append}
 use Rattle.outcome.specs.Bytes.{word, wordAt, allOnes}
+use Rattle.outcome_laws.proofs.Words.{word-bytes}
 use Rattle.table_laws.specs.Digits.{value, digits}
 use Rattle.table_laws.specs.Keys.{keyOf, positionWith, positionFrom}
 use Rattle.table_laws.specs.Table.{putWord, keyAt, keys, row, laidOut}
-use Rattle.table_laws.proofs.Records.{records-length}
 use Rattle.table_laws.proofs.Tables.{elements, two-words, keys-length, keys-more}
-use Rattle.table_laws.proofs.Words.{Bytes, word-bytes, word-drop}
-
--- one run of stores after another
-sets-append : {A : Type 0} (l : List A) (i : ℕ) (vs ws : List A) → sets (sets l i vs) (i + length vs) ws ≡ sets l i (vs ++ ws)
-sets-append l i [] ws = rw add-zero
-sets-append l i (v ∷ vs) ws = rw (add-suc, ← suc-add) (sets-append (set l i v) (suc i) vs ws)
+use Rattle.table_laws.proofs.Words.{Bytes, word-drop}
 
 -- a position's numbers are bytes
 pub position-numbers : (p : Position) → p .left < 256 → p .right < 256 → Bytes (p .partners) → Bytes (bytes p)
@@ -38,8 +33,8 @@ pub row-written : (t : List ℕ) (i : ℕ) (p : Position) (n : ℕ) → length (
     → putWord (putWord (putWord t i (wordAt (bytes p) 0)) (i + 4) (wordAt (bytes p) 4)) (i + 8) n ≡ sets t i (row p n)
 unfolding row word count
 row-written t i p n e b =
-    ap (λ (l : List ℕ). sets l (i + 8) (word n)) (sets-append t i (word (wordAt (bytes p) 0)) (word (wordAt (bytes p) 4)))
-    ∙ sets-append t i (word (wordAt (bytes p) 0) ++ word (wordAt (bytes p) 4)) (word n)
+    ap (λ (l : List ℕ). sets l (i + 8) (word n)) (sym (sets-append t i (word (wordAt (bytes p) 0)) (word (wordAt (bytes p) 4))))
+    ∙ sym (sets-append t i (word (wordAt (bytes p) 0) ++ word (wordAt (bytes p) 4)) (word n))
     ∙ ap (λ (l : List ℕ). sets t i (l ++ word n)) whole
   where
     whole : word (wordAt (bytes p) 0) ++ word (wordAt (bytes p) 4) ≡ bytes p

@@ -1,7 +1,7 @@
 -- The entries of a table whose positions rise, by the numbers of their eight bytes: they rise too, and a number that is met is its
 -- position's. Assumes nothing.
 use Prim.Native.Nat.{ℕ, zero, suc, _+_, _*_, _≤_, _<_}
-use mathlib.Core.Path.{_≡_, refl, sym, _∙_, ap}
+use mathlib.Core.Path.{_≡_, sym, _∙_, ap}
 use mathlib.Core.Bool.{true}
 use mathlib.Core.List.{List, [], _∷_}
 use native.Mathlib.Omega.{arith}
@@ -12,11 +12,11 @@ use lib.Seq.{length-take-le, getD-take, getD-drop}
 use Rattle.fra.specs.Position.{bytes, before, Rising}
 use Rattle.fra.specs.declared.Position.{Position}
 use Rattle.fra_laws.proofs.Order.{bytes-injective}
-use Rattle.outcome.specs.Check.{positionOf}
+use Rattle.fra_laws.proofs.Records.{at-member}
+use Rattle.outcome_laws.proofs.Encoding.{position-bytes}
 use Rattle.table_laws.specs.Digits.{value, Below}
 use Rattle.table_laws.specs.Table.{positionAt, positions}
 use Rattle.table_laws.proofs.Digits.{value-below, value-order}
-use Rattle.table_laws.proofs.Records.{at-member}
 use Rattle.table_laws.proofs.Tables.{places-length, places-at}
 use Rattle.table_laws.proofs.Words.{Bytes}
 
@@ -43,12 +43,6 @@ pub below-from : (base : ℕ) (l : List ℕ) → ((i : ℕ) → i < length l →
 below-from base [] h = tt
 below-from base (x ∷ l) h = (h 0 (omega arith), below-from base l (λ i k. h (suc i) (omega arith)))
 
-pub position-bytes : (l : List ℕ) → 8 ≤ length l → bytes (positionOf 6 l) ≡ take 8 l
-unfolding bytes positionOf
-position-bytes [] h = absurd (omega arith)
-position-bytes (a ∷ []) h = absurd (omega arith)
-position-bytes (a ∷ b ∷ l) h = refl
-
 -- ── Numbers of entries ──
 
 -- the number of the eight bytes of entry i
@@ -57,7 +51,7 @@ numberAt t i = value 256 0 (take 8 (drop (i * 12) t))
 
 module _ (t : List ℕ) (b : Bytes t) (i : ℕ) (room : i * 12 + 12 ≤ length t) where
   entry-bytes : bytes (positionAt t i) ≡ take 8 (drop (i * 12) t)
-  entry-bytes = position-bytes (drop (i * 12) t) (rw length-drop (omega arith))
+  entry-bytes = position-bytes 6 (drop (i * 12) t) (rw length-drop (omega arith))
 
   entry-length : length (bytes (positionAt t i)) ≡ 8
   entry-length = ap length entry-bytes ∙ length-take-le 8 (drop (i * 12) t) (rw length-drop (omega arith))

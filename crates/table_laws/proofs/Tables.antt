@@ -10,6 +10,7 @@ use native.Mathlib.Decide.{ℕ-discrete, decLt, decLe}
 use lib.ListN.{take, drop, set, length-set, length-drop, length, getD, length-map}
 use lib.Seq.{getD-set-same, getD-set-other, length-take-le, getD-take, getD-drop, length-sets, ext-getD}
 use Rattle.fra.specs.Lists.{count}
+use Rattle.fra_laws.proofs.Lengths.{count-length, count-more}
 use Rattle.outcome.specs.Bytes.{word, wordAt}
 use Rattle.table_laws.specs.Digits.{value}
 use Rattle.table_laws.specs.Table.{putWord, keyAt, keys, withKeysFrom, withKeys}
@@ -17,16 +18,6 @@ use Rattle.table_laws.specs.Passes.{Beside}
 use Rattle.table_laws.proofs.Words.{Bytes, read-word, read-other-word, word-byte, word-from, put-other, put-inside}
 
 -- ── Lists given by a function of the place ──
-
-count-length : (k n : ℕ) → length (count k n) ≡ n
-unfolding count
-count-length k zero = refl
-count-length k (suc n) = ap suc (count-length (suc k) n)
-
-count-more : (k n : ℕ) → count k (suc n) ≡ count k n ++ ((k + n) ∷ [])
-unfolding count
-count-more k zero = rw add-zero
-count-more k (suc n) = rw (add-suc, ← suc-add) (ap (λ (l : List ℕ). k ∷ l) (count-more (suc k) n))
 
 module _ {A : Type 0} (f : ℕ → A) where
   pub places-length : (n : ℕ) → length (map f (count 0 n)) ≡ n

@@ -1,14 +1,14 @@
 -- Words of four bytes: what is written is read back, and all other bytes stay as they were. Assumes nothing.
-use Prim.Native.Nat.{ℕ, zero, suc, _+_, _*_, _/_, _%_, _^_, _≤_, _<_}
+use Prim.Native.Nat.{ℕ, zero, suc, _+_, _^_, _≤_, _<_}
 use mathlib.Core.Path.{_≡_, refl, _∙_}
 use mathlib.Core.Logic.{_⊎_, inl, inr, ⊎-elim}
 use mathlib.Core.List.{List, [], _∷_}
 use native.Mathlib.Omega.{arith}
 use native.Mathlib.Nat.{add-zero, add-suc, suc-add}
-use lib.ListN.{length, drop, length-drop, getD, set, length-set}
-use lib.Pow.{recompose, mod-pow-add}
+use lib.ListN.{length, drop, getD, set, length-set}
 use lib.Seq.{sets, getD-drop, getD-set-same, getD-set-other}
-use Rattle.outcome.specs.Bytes.{word, wordAt, cleared, thenZeros}
+use Rattle.outcome.specs.Bytes.{word, wordAt}
+use Rattle.outcome_laws.proofs.Words.{word-value, word-bytes}
 use Rattle.table_laws.specs.Table.{putWord}
 
 -- ── A run of stores, of anything ──
@@ -37,30 +37,6 @@ module _ {A : Type 0} where
 -- every byte of a list is one
 abbrev pub Bytes : List ℕ → Type 0
 Bytes l = (i : ℕ) → getD l i 0 < 256
-
-word-value : (n : ℕ) → n < 2 ^ 32
-    → n / 2 ^ 24 % 256 * 2 ^ 24 + n / 2 ^ 16 % 256 * 2 ^ 16 + n / 2 ^ 8 % 256 * 2 ^ 8 + n % 256 ≡ n
-word-value n h = omega (arith, recompose 8 24 h, mod-pow-add n 8 16, mod-pow-add n 8 8)
-
-pub word-bound : (l : List ℕ) (i : ℕ) → Bytes l → wordAt l i < 2 ^ 32
-unfolding wordAt
-word-bound l i b = omega (arith, b i, b (i + 1), b (i + 2), b (i + 3))
-
--- the word of four bytes is these bytes
-pub word-bytes : (l : List ℕ) (i : ℕ) → Bytes l
-    → word (wordAt l i) ≡ getD l i 0 ∷ getD l (i + 1) 0 ∷ getD l (i + 2) 0 ∷ getD l (i + 3) 0 ∷ []
-unfolding word wordAt
-word-bytes l i b = four (getD l i 0) (getD l (i + 1) 0) (getD l (i + 2) 0) (getD l (i + 3) 0) (b i) (b (i + 1)) (b (i + 2)) (b (i + 3))
-  where
-    four : (w x y z : ℕ) → w < 256 → x < 256 → y < 256 → z < 256
-        → word (w * 2 ^ 24 + x * 2 ^ 16 + y * 2 ^ 8 + z) ≡ w ∷ x ∷ y ∷ z ∷ []
-    four w x y z a b c d =
-        let n = w * 2 ^ 24 + x * 2 ^ 16 + y * 2 ^ 8 + z in
-        let e₁ : n / 2 ^ 24 % 256 ≡ w = omega arith in
-        let e₂ : n / 2 ^ 16 % 256 ≡ x = omega arith in
-        let e₃ : n / 2 ^ 8 % 256 ≡ y = omega arith in
-        let e₄ : n % 256 ≡ z = omega arith in
-        cc
 
 pub word-byte : (l : List ℕ) (i k : ℕ) → Bytes l → k < 4 → getD (word (wordAt l i)) k 0 ≡ getD l (i + k) 0
 word-byte l i k b h = rw (word-bytes l i b) (at k h)
@@ -107,10 +83,3 @@ read-other-word l i n j h =
   where
     e : (k : ℕ) → k < 4 → getD (putWord l i n) (j + k) 0 ≡ getD l (j + k) 0
     e k m = put-other l i n (j + k) (⊎-elim (λ a. inl (omega arith)) (λ a. inr (omega arith)) h)
-
--- ── Zeros behind what was written ──
-
--- they do not depend on what stood there
-pub thenZeros-size : (written t u : List ℕ) → length t ≡ length u → thenZeros written t ≡ thenZeros written u
-unfolding thenZeros cleared
-thenZeros-size written t u e = rw (length-drop (length written) t, length-drop (length written) u, e)

@@ -14,7 +14,6 @@ use Rattle.fra.specs.declared.EdgeKind.{EdgeKind}
 use Rattle.fra.specs.declared.EdgeKind.the-variants.{Known, LocallyFresh, GloballyFresh}
 use Rattle.fra.specs.declared.Edge.{Edge}
 use Rattle.fra.specs.declared.Model.{Model}
-use Rattle.fra.specs.declared.Position.{Position}
 use Rattle.fra.specs.declared.Task.{Task}
 use Rattle.fra.specs.declared.Side.{Side}
 use Rattle.fra.specs.declared.Side.the-variants.{Left, Right}
@@ -22,7 +21,6 @@ use Rattle.task.specs.declared.Stage.{Stage}
 use Rattle.task.specs.declared.Stage.the-variants.{Start, States, Edges, Pairs, Ended}
 use Rattle.task.specs.declared.Progress.{Progress}
 use Rattle.task.specs.declared.Stepped.{Stepped}
-use Rattle.task.specs.declared.Answer.{Answer}
 use Rattle.task.specs.declared.Answer.the-variants.{Read, Refused}
 use Rattle.task.specs.declared.TaskRead.{TaskRead}
 

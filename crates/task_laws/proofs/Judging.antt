@@ -19,12 +19,13 @@ use Rattle.fra.specs.declared.Task.{Task}
 use Rattle.task.specs.TaskFile.{maxRegisters, maxStates, tagCount, maxEdges, headerRefusal, stateRefusal, kindOf, edgeExists, keepsRule, rises, edgeRefusal, rising, pairRefusal}
 use borrow.Author.Tests.{ltb-true, ltb-false, lt-ltb, eq-eqb, leb-true, leb-false, eqb-true, eqb-false, not-true, not-false}
 use Rattle.task_laws.proofs.Tests.{some-of-three, some-of-four, not-all-of-six}
-use Rattle.task_laws.proofs.Sets.{has-positive, has-below, has-above, inside-false}
+use Rattle.task_laws.proofs.Sets.{has-below, has-above, inside-false}
 use Rattle.task_laws.proofs.Arrays.{any-at, any-index}
 use Rattle.task_laws.proofs.Checks.{HeaderFits, header-fits, StateFits, state-fits, EdgeExists, edge-exists, PairFits, pair-fits}
 use Rattle.task_laws.proofs.Models.{Whole, rule-kept}
 use Rattle.task_laws.proofs.Ties.{Written, Paired}
 use Rattle.fra_laws.proofs.Tests.{and-false, not-both, passes-or-fails}
+use Rattle.fra_laws.proofs.Registers.{has-positive}
 use Rattle.task.specs.Records.{Record, header, state, edge, pair, end, Allowed, statesRead, registers, states, setIn, earlier, start, startSet, Rule, place, header-rule, state-rule, existence, register-rule, edge-order, edge-limit, pair-rule, number, HeaderFault, StateFault, Nonexistence, RegisterFault, KindFault, OrderFault, LimitFault, PairFault, Breaks}
 
 -- ── The lowest rule that is broken ──

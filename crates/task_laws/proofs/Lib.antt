@@ -1,5 +1,5 @@
--- The laws of the task file: `read-valid` and `read-limits` (Valid), `refused-exactly`, `refused-range` and `read-exactly`
--- (Refusals). The other files lead up to them.
+-- The laws of the task file: `read-valid` and `read-limits` (Valid), `refused-exactly` (Refusals). The other files lead up to
+-- them.
 pub mod Tests
 pub mod Sets
 pub mod Arrays

@@ -1,19 +1,18 @@
 -- Each refusal in its case and in no other: the reader's answer on any file, told by the file's records. Assumes nothing.
-use Prim.Native.Nat.{ℕ, suc, _-_, _≤_, _<_}
-use mathlib.Core.Path.{_≡_, refl, ap, subst}
+use Prim.Native.Nat.{ℕ, suc, _-_, _<_}
+use mathlib.Core.Path.{_≡_, refl, subst}
 use mathlib.Core.Logic.{_↔_, _⊎_, inl, inr}
 use mathlib.Core.List.{List, [], _∷_, _++_, List·Memᴰ·not-nil}
 use native.Mathlib.Omega.{arith}
 use lib.ListN.{length}
-use Rattle.task.specs.Records.{Record, end, encode, NoEnd, number, Body, Obeyed, nothing, another, TurnedBack}
-use Rattle.task.specs.TaskFile
+use Rattle.task.specs.Records.{Record, encode, NoEnd, number, Body, Obeyed, nothing, another, TurnedBack}
 use Rattle.task.specs.TaskFile.{atStart, refused, bodyLength, readTask}
 use Rattle.task.specs.declared.Stage.{Stage}
 use Rattle.task.specs.declared.Stage.the-variants.{Start, States, Edges, Pairs, Ended}
 use Rattle.task.specs.declared.Progress.{Progress}
-use Rattle.task.specs.declared.Answer.the-variants.{Read, Refused}
+use Rattle.task.specs.declared.Answer.the-variants.{Refused}
 use Rattle.task.specs.declared.TaskRead.{TaskRead}
-use Rattle.task_laws.proofs.Reading.{kind-body, body-kind, unknown-kind, read-halt, stepOf, Run, begin, onward, Halt, ended, unended, unknown, cut, broken, halts, halt-decides}
+use Rattle.task_laws.proofs.Reading.{kind-body, body-kind, unknown-kind, stepOf, Run, begin, onward, Halt, ended, unended, unknown, cut, broken, halts, halt-decides}
 use Rattle.task_laws.proofs.Valid.{sound-run}
 use Rattle.task_laws.proofs.Ties.{AtStage, Tied}
 use Rattle.task_laws.proofs.Judging.{number-bounds, Judged, obeys, breaks}
@@ -140,33 +139,3 @@ turned-back-refused file n (inr (inr (rule, e, b))) =
 -- Refusal n is the answer exactly in the case that 01 names for it.
 pub refused-exactly : (file : List ℕ) (n : ℕ) → (readTask file .answer ≡ Refused n) ↔ TurnedBack n file
 refused-exactly file n = (refused-turned-back file n, turned-back-refused file n)
-
--- Its number is 1 to 10.
-pub refused-range : (file : List ℕ) (n : ℕ) → readTask file .answer ≡ Refused n → (1 ≤ n) × (n ≤ 10)
-unfolding TurnedBack
-refused-range file n e = at (refused-turned-back file n e)
-  where
-    at : TurnedBack n file → (1 ≤ n) × (n ≤ 10)
-    at (inl (d, u)) = (omega arith, omega arith)
-    at (inr (inl (d, c))) = (omega arith, omega arith)
-    at (inr (inr (rule, d, b))) = (omega (arith, number-bounds rule), omega (arith, number-bounds rule))
-
--- A file is read exactly if it is records that each obey the rules, up to an end record.
-pub read-exactly : (file : List ℕ) → (readTask file .answer ≡ Read) ↔ ((l : List Record) × Obeyed file (end ∷ l) [])
-read-exactly file = (there, back)
-  where
-    there : readTask file .answer ≡ Read → (l : List Record) × Obeyed file (end ∷ l) []
-    there e =
-        let w = read-halt file e in
-        let o = run-obeyed (w .1) in
-        let h = subst (λ (stage : Stage). AtStage stage (o .0)) (w .2) (o .2 .at-stage) in
-        (h .last .0, rw (h .last .1) at (o .1))
-
-    back : (l : List Record) × Obeyed file (end ∷ l) [] → readTask file .answer ≡ Read
-    back w =
-        let v = obeyed-run (w .1) in
-        ap (λ (r : TaskRead). r .answer) (halt-decides (v .1) (ended (at-last (ended-or-not (v .0 .stage) (end ∷ w .0) (v .2 .at-stage)))))
-      where
-        at-last : {stage : Stage} → (stage ≡ Ended) ⊎ NoEnd (end ∷ w .0) → stage ≡ Ended
-        at-last (inl e) = e
-        at-last (inr no-end) = absurd (after-end refl no-end)

@@ -1,7 +1,7 @@
 -- Register sets: which registers a set below a power of two may have, and what the test `inside` says. Assumes nothing.
 use Prim.Native.Nat.{ℕ, zero, suc, _+_, _/_, _%_, _^_, _≤_, _<_}
 use mathlib.Core.Path.{_≡_, refl}
-use mathlib.Core.Bool.{Bool, true, false, not, _||_, false≢true}
+use mathlib.Core.Bool.{Bool, true, false, not, _||_}
 use native.Mathlib.Nat.{div-eq-of-lt, div-eq-of-lt-le, pow-le-pow-right, one-le-pow}
 use native.Mathlib.Decide.{decLt}
 use native.Mathlib.Omega.{arith}
@@ -12,12 +12,7 @@ use Rattle.fra.specs.Valid.{Inside}
 use Rattle.task.specs.Records.{Outside}
 use Rattle.fra_laws.proofs.Tests.{or-false-left, or-false-right}
 use Rattle.fra_laws.proofs.Lists.{all-at, all-counterexample, count-intro}
-
--- registers are numbered from 1
-pub has-positive : (set i : ℕ) → has set i ≡ true → 1 ≤ i
-unfolding has
-has-positive set zero h = absurd (false≢true h)
-has-positive set (suc k) h = omega arith
+use Rattle.fra_laws.proofs.Registers.{has-positive}
 
 -- a set below 2 ^ r has no register above r
 pub has-below : (r set i : ℕ) → set < 2 ^ r → has set i ≡ true → i ≤ r

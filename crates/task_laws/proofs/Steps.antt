@@ -23,7 +23,7 @@ use Rattle.task.specs.declared.Stage.{Stage}
 use Rattle.task.specs.declared.Stage.the-variants.{Start, States, Edges, Pairs, Ended}
 use Rattle.task.specs.declared.Progress.{Progress}
 use Rattle.task.specs.declared.Stepped.{Stepped}
-use Rattle.task_laws.proofs.Sets.{has-positive}
+use Rattle.fra_laws.proofs.Registers.{has-positive}
 use Rattle.task_laws.proofs.Reading.{stepAt, decided, decided-refusal, decided-passes}
 use Rattle.task_laws.proofs.Checks.{header-fits, state-fits, edge-fits, PairFits, pair-fits}
 use Rattle.task_laws.proofs.Valid.{SoundAt, Finished, unpaired-finished, modelOf-withModel}

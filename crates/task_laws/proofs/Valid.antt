@@ -28,7 +28,7 @@ use Rattle.task.specs.declared.Stage.the-variants.{Start, States, Edges, Pairs,
 use Rattle.task.specs.declared.Progress.{Progress}
 use Rattle.task.specs.declared.Answer.the-variants.{Read}
 use Rattle.fra_laws.proofs.Tests.{and-left, and-right, and-intro, or-cases, or-left, or-right, or-false-left, or-false-right, or-false-intro}
-use Rattle.task_laws.proofs.Sets.{has-positive}
+use Rattle.fra_laws.proofs.Registers.{has-positive}
 use Rattle.task_laws.proofs.Reading.{stepAt, decided-passes, Run, begin, onward, read-halt}
 use Rattle.task_laws.proofs.Checks.{header-fits, state-fits, edge-fits, PairFits, pair-fits}
 use Rattle.task_laws.proofs.Models.{Begun, Whole, begun-headed, begun-withState, begun-whole, whole-withEdge}

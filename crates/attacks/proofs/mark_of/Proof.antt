@@ -3,7 +3,7 @@ use mathlib.Core.Path.{_≡_, refl}
 use native.Mathlib.Omega.{arith}
 use lib.ListN.{length, List·getD-eq-default}
 use Rattle.fra.specs.Model.{noState, markOf}
-use Rattle.lookup.proofs.Arrays.{length-of-map}
+use Rattle.fra_laws.proofs.Lengths.{length-of-map}
 use borrow.Author.Needs.{needs}
 use Rattle.attacks.proofs.mark_of.Statement.{statement}
 use Rattle.attacks.proofs.mark_of.Tie as tie

@@ -9,7 +9,7 @@ use borrow.Author.Needs.{needs}
 use Rattle.fra.specs.Rules.{bisimulation}
 use Rattle.fra.specs.Reach.{reached}
 use Rattle.outcome.specs.declared.Verdict.the-variants.{Differ}
-use Rattle.replies.proofs.Lists.{length-of-map}
+use Rattle.fra_laws.proofs.Lengths.{length-of-map}
 use Rattle.index.specs.Index.{Indexed}
 use Rattle.wins.specs.Judgement.{Searchable}
 use Rattle.certify_laws.specs.Records.{recordsOf}

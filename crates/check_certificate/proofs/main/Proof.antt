@@ -1,5 +1,5 @@
 -- `check_certificate::main` is safe: what was read is within the room for it. Assumes nothing.
-use mathlib.Core.Path.{_≡_, sym}
+use mathlib.Core.Path.{sym}
 use lib.Seq.{length-take-le}
 use borrow.Author.Needs.{needs}
 use Rattle.check_certificate.proofs.main.Statement.{statement}

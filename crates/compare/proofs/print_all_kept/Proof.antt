@@ -1,6 +1,5 @@
 -- `compare::print_all_kept` is safe and ends: what is left of the certificate falls. Assumes nothing.
 use Prim.Native.Nat.{_≤_, _-_}
-use lib.ListN.{length}
 use borrow.Author.Needs.{needs}
 use Rattle.compare.proofs.print_all_kept.Statement.{statement}
 use Rattle.compare.proofs.print_all_kept.Tie as tie

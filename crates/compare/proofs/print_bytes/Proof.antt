@@ -1,6 +1,5 @@
 -- `compare::print_bytes` is safe and ends: what is left of the bytes falls. Assumes nothing.
 use Prim.Native.Nat.{_≤_, _-_}
-use lib.ListN.{length}
 use borrow.Author.Needs.{needs}
 use Rattle.compare.proofs.print_bytes.Statement.{statement}
 use Rattle.compare.proofs.print_bytes.Tie as tie

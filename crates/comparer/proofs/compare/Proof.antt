@@ -1,5 +1,4 @@
 -- `comparer::compare` meets its contract: a refusal of the file, or what its task gives. Assumes nothing.
-use mathlib.Core.Path.{_≡_, refl, sym, _∙_, ap}
 use denote.Ref.{now}
 use borrow.Author.Needs.{needs}
 use Rattle.task_laws.proofs.Valid.{read-valid}

@@ -1,5 +1,5 @@
 -- `comparer::compare_task` meets its contract: 11 with the table cleared, or what the positions found lead to. Assumes nothing.
-use mathlib.Core.Path.{_≡_, _∙_}
+use mathlib.Core.Path.{_∙_}
 use denote.Ref.{now}
 use borrow.Author.Needs.{needs}
 use Rattle.comparer.proofs.Outcomes.{too-many, all-found, found-judged}

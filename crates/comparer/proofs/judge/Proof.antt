@@ -3,7 +3,7 @@ use mathlib.Core.Path.{_≡_, _∙_}
 use native.Mathlib.Omega.{arith}
 use lib.ListN.{length}
 use borrow.Author.Needs.{needs}
-use Rattle.lookup.proofs.Arrays.{length-of-map}
+use Rattle.fra_laws.proofs.Lengths.{length-of-map}
 use Rattle.comparer.proofs.Outcomes.{Within, within, ranked-room, ranked-start, too-long, judged}
 use Rattle.comparer.proofs.judge.Statement.{statement}
 use Rattle.comparer.proofs.judge.Tie as tie

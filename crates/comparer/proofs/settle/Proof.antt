@@ -2,7 +2,7 @@
 use mathlib.Core.Path.{_≡_}
 use lib.ListN.{length}
 use borrow.Author.Needs.{needs}
-use Rattle.lookup.proofs.Arrays.{length-of-map}
+use Rattle.fra_laws.proofs.Lengths.{length-of-map}
 use Rattle.comparer.proofs.Outcomes.{Within, within, laid-out, all-ranked}
 use Rattle.comparer.proofs.settle.Statement.{statement}
 use Rattle.comparer.proofs.settle.Tie as tie

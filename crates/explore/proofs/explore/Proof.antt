@@ -6,7 +6,7 @@ use lib.ListN.{length}
 use denote.Ref.{now}
 use borrow.Author.Needs.{needs}
 use Rattle.fra.specs.Rules.{bisimulation}
-use Rattle.replies.proofs.Lists.{length-of-map}
+use Rattle.fra_laws.proofs.Lengths.{length-of-map}
 use Rattle.explore_laws.specs.Exploring.{Explorable}
 use Rattle.explore_laws.proofs.Stored.{stored-none}
 use Rattle.explore_laws.proofs.Exploring.{exploring-begins, first-overflows}

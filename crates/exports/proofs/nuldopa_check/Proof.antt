@@ -1,5 +1,5 @@
 -- `exports::nuldopa_check` meets its contract. Assumes nothing.
-use mathlib.Core.Path.{_≡_, _∙_, ap}
+use mathlib.Core.Path.{_∙_, ap}
 use borrow.Author.Needs.{needs}
 use Rattle.outcome.specs.Verdicts.{checkedValuesOf}
 use Rattle.exports.proofs.nuldopa_check.Statement.{statement}

@@ -1,5 +1,5 @@
 -- `exports::verdict_answer` meets its contract. Assumes nothing.
-use mathlib.Core.Path.{_≡_, refl}
+use mathlib.Core.Path.{refl}
 use borrow.Author.Needs.{needs}
 use Rattle.exports.proofs.verdict_answer.Statement.{statement}
 use Rattle.exports.proofs.verdict_answer.Tie as tie

@@ -10,8 +10,8 @@ use lib.ListN.{length, replicate}
 use borrow.Author.Needs.{needs}
 use Rattle.fra.specs.Lists.{count}
 use Rattle.fra.specs.Model.{edgeOf, setOf}
+use Rattle.fra_laws.proofs.Lengths.{length-of-map, count-more}
 use Rattle.replies.specs.Fan.{Collected, fanBytes}
-use Rattle.replies.proofs.Lists.{count-more, length-of-map}
 use Rattle.replies.proofs.Fans.{collect-one}
 use Rattle.index.specs.Index.{edgeTable}
 use Rattle.index.proofs.edges.Statement.{statement}

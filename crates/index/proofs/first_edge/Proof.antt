@@ -8,7 +8,7 @@ use lib.ListN.{length}
 use borrow.Author.Needs.{needs}
 use borrow.Author.Tests.{lt-ltb, le-ltb}
 use Rattle.fra.specs.Model.{edgeOf}
-use Rattle.replies.proofs.Lists.{length-of-map}
+use Rattle.fra_laws.proofs.Lengths.{length-of-map}
 use Rattle.index.specs.Index.{fromOf, firstEdge, lower}
 use Rattle.index.proofs.Ranges.{lower-later, lower-here, lower-end}
 use Rattle.index.proofs.first_edge.Statement.{statement}

@@ -7,8 +7,9 @@ use native.Mathlib.Omega.{arith}
 use lib.Seq.{sets}
 use borrow.Author.Needs.{needs}
 use Rattle.fra.specs.Lists.{count}
+use Rattle.fra_laws.proofs.Lengths.{length-of-map}
+use Rattle.fra_laws.proofs.Records.{sets-append}
 use Rattle.table_laws.proofs.Tables.{places-length, places-more}
-use Rattle.replies.proofs.Lists.{sets-append, length-of-map}
 use Rattle.index.specs.Index.{sideByte, sideBytes}
 use Rattle.index.proofs.put_side.Statement.{statement}
 use Rattle.index.proofs.put_side.Tie as tie

@@ -7,7 +7,7 @@ use native.Mathlib.Omega.{arith}
 use lib.ListN.{length}
 use borrow.Author.Needs.{needs}
 use Rattle.fra.specs.Model.{edgeOf}
-use Rattle.lookup.proofs.Arrays.{length-of-map}
+use Rattle.fra_laws.proofs.Lengths.{length-of-map}
 use Rattle.rank_laws.specs.Pairs.{sources}
 use Rattle.pairs.proofs.sources.Statement.{statement}
 use Rattle.pairs.proofs.sources.Tie as tie

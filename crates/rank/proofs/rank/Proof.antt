@@ -7,12 +7,12 @@ use native.Mathlib.Omega.{arith}
 use lib.ListN.{length, drop}
 use borrow.Author.Needs.{needs}
 use Rattle.fra.specs.Rules.{bisimulation}
+use Rattle.fra_laws.proofs.Lengths.{length-of-map}
 use Rattle.fra_laws.proofs.Count.{most-positions}
 use Rattle.fra_laws.proofs.Reached.{reached-unique, reached-legal}
 use Rattle.fra.specs.Reach.{reached}
 use Rattle.outcome.specs.Bytes.{allOnes}
 use Rattle.index.specs.Index.{Indexed}
-use Rattle.lookup.proofs.Arrays.{length-of-map}
 use Rattle.rank_laws.specs.Levels.{level}
 use Rattle.rank_laws.proofs.Pairs.{every-pair}
 use Rattle.rank.specs.Passes.{Ready}

@@ -4,7 +4,7 @@ use native.Mathlib.Omega.{arith}
 use lib.ListN.{length, List·getD-eq-default}
 use borrow.Author.Needs.{needs}
 use Rattle.fra.specs.Model.{noEdge, edgeOf}
-use Rattle.lookup.proofs.Arrays.{length-of-map}
+use Rattle.fra_laws.proofs.Lengths.{length-of-map}
 use Rattle.lookup.proofs.models.edge_of.Statement.{statement}
 use Rattle.lookup.proofs.models.edge_of.Tie as tie
 

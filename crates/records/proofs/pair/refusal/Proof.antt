@@ -3,7 +3,7 @@ use mathlib.Core.Path.{sym, _∙_}
 use mathlib.Core.Logic.{⊎-elim, inl, inr}
 use borrow.Author.Tests.{not-true, not-false}
 use borrow.Author.Needs.{needs}
-use Rattle.lookup.proofs.Registers.{has-positive}
+use Rattle.fra_laws.proofs.Registers.{has-positive}
 use Rattle.records.proofs.Rules.{pair-0, pair-10}
 use Rattle.records.proofs.pair.refusal.Statement.{statement}
 use Rattle.records.proofs.pair.refusal.Tie as tie

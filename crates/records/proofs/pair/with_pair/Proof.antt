@@ -7,7 +7,7 @@ use lib.ListN.{length}
 use lib.Seq.{set-out}
 use borrow.Author.Needs.{needs}
 use Rattle.task.specs.TaskFile.{withPair}
-use Rattle.lookup.proofs.Arrays.{length-of-map}
+use Rattle.fra_laws.proofs.Lengths.{length-of-map}
 use Rattle.records.proofs.pair.with_pair.Statement.{statement}
 use Rattle.records.proofs.pair.with_pair.Tie as tie
 

@@ -7,8 +7,8 @@ use native.Mathlib.Omega.{arith}
 use lib.ListN.{length}
 use borrow.Author.Needs.{needs}
 use Rattle.fra.specs.Model.{edgeOf, setOf}
+use Rattle.fra_laws.proofs.Lengths.{length-of-map}
 use Rattle.replies.specs.Fan.{fanOf}
-use Rattle.replies.proofs.Lists.{length-of-map}
 use Rattle.replies.proofs.Fans.{CollectedBelow, collect-none, collect-more, collect-same}
 use Rattle.replies.proofs.fan.fan.Statement.{statement}
 use Rattle.replies.proofs.fan.fan.Tie as tie

@@ -4,7 +4,7 @@ use native.Mathlib.Omega.{arith}
 use lib.ListN.{length, List·getD-eq-default}
 use borrow.Author.Needs.{needs}
 use Rattle.fra.specs.Model.{noState}
-use Rattle.replies.proofs.Lists.{length-of-map}
+use Rattle.fra_laws.proofs.Lengths.{length-of-map}
 use Rattle.replies.proofs.fan.set_in.Statement.{statement}
 use Rattle.replies.proofs.fan.set_in.Tie as tie
 

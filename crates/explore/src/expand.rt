@@ -2,39 +2,58 @@
 use crate::Explored;
 use crate::set;
 use crate::set::Inserted;
+use fra::Model;
 use fra::Position;
 use fra::Side;
 use index::Range;
 use moves::rounds;
+use moves::rounds::Target;
 use replies::fan;
 use replies::fan::Candidate;
+ghost use Prim.Native.Nat.{_<_};
 ghost use mathlib.Core.Path.{_≡_};
 ghost use mathlib.Core.Bool.{true};
 ghost use Rattle.fra.specs.Rules.{bisimulation};
 ghost use Rattle.fra.specs.Position.{legal};
 ghost use Rattle.fra.specs.declared.Task.{Task};
+ghost use Rattle.moves.specs.Rounds.{movedTo};
 ghost use Rattle.replies.specs.Fan.{candidateAt};
 ghost use Rattle.index.specs.Index.{Indexed};
 ghost use Rattle.table_laws.specs.Keys.{keyOf};
-ghost use Rattle.explore_laws.specs.Stored.{Stored};
+ghost use Rattle.explore_laws.specs.Stored.{keyLimit, Stored};
 ghost use Rattle.explore_laws.specs.Growth.{Among};
 ghost use Rattle.explore_laws.specs.Pairs.{PairKey};
 ghost use Rattle.explore_laws.specs.Exploring.{SuccessorKey};
 ghost use Rattle.explore.specs.Answers.{Visited};
 
-// Inserts a position.
-pub fn visit(table: &mut [u8], n: usize, p: Position) -> Explored
-    requires { ⌜ Stored n (now table) ⌝ }
-    ensures { λ r. ⌜ Visited (λ k. k ≡ keyOf p) n (now (table .entry)) r (now (table .exit)) ⌝ }
+// Inserts a key.
+pub fn visit(table: &mut [u8], n: usize, key: u32) -> Explored
+    requires { ⌜ Stored n (now table) × (key < keyLimit) ⌝ }
+    ensures { λ r. ⌜ Visited (λ k. k ≡ key) n (now (table .entry)) r (now (table .exit)) ⌝ }
 {
-    match set::insert(table, n, table::key(p)) {
+    match set::insert(table, n, key) {
         Inserted::Present => Explored::Count(n),
         Inserted::Added => Explored::Count(n + 1),
         Inserted::Full => Explored::TooMany,
     }
 }
 
-// Inserts the position that a left and a right edge lead to, if they can take one number.
+// The key of the position after a left and a right edge have taken one number, digit by digit: the position is not made.
+fn key_after(p: Position, left: Target, right: Target) -> u32
+    ensures { λ r. ⌜ (r ≡ keyOf (movedTo p left right)) × (r < keyLimit) ⌝ }
+{
+    let before = p.partners;
+    let mut key = (left.state as u32) * 16 + (right.state as u32);
+    let mut i: u8 = 0;
+    while i < Model::REGISTERS {
+        let x = rounds::rejoined(left.register, right.register, i + 1, before[i as usize]);
+        key = key * 8 + (rounds::remaining(left.set, right.set, i + 1, x) as u32);
+        i += 1;
+    }
+    key
+}
+
+// Inserts the key of the position that a left and a right edge lead to, if they can take one number.
 fn visit_pair(
     table: &mut [u8],
     n: usize,
@@ -50,7 +69,7 @@ fn visit_pair(
     if rounds::joint(p, kind, other_kind) {
         let target = left.target;
         let other_target = right.target;
-        return visit(table, n, rounds::moved(p, target, other_target));
+        return visit(table, n, key_after(p, target, other_target));
     }
     Explored::Count(n)
 }

@@ -51,7 +51,7 @@ pub fn explore(t: Task, table: &mut [u8]) -> Explored
 {
     table::clear(table);
     let start = t.start;
-    let Explored::Count(n) = expand::visit(table, 0, start) else {
+    let Explored::Count(n) = expand::visit(table, 0, table::key(start)) else {
         return Explored::TooMany;
     };
     expand_all(table, n, t)

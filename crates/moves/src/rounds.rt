@@ -19,7 +19,7 @@ pub struct Target {
 }
 
 // The partner of left register i, which had partner x, once left register a and right register b hold the number taken.
-fn rejoined(a: u8, b: u8, i: u8, x: u8) -> u8
+pub fn rejoined(a: u8, b: u8, i: u8, x: u8) -> u8
     ensures { λ r. ⌜ r ≡ rejoined a b i x ⌝ }
 {
     if i == a {
@@ -28,14 +28,13 @@ fn rejoined(a: u8, b: u8, i: u8, x: u8) -> u8
     if x == b { 0 } else { x }
 }
 
-// The partner x of left register i, if both are in the to sets.
-fn remaining(left: u8, right: u8, i: u8, x: u8) -> u8
+// The partner x of left register i, if both are in the to sets. Both tests are made: a jump on the first would be guessed wrong
+// too often.
+pub fn remaining(left: u8, right: u8, i: u8, x: u8) -> u8
     ensures { λ r. ⌜ r ≡ remaining left right i x ⌝ }
 {
-    if !has(left, i) {
-        return 0;
-    }
-    if has(right, x) { x } else { 0 }
+    let kept = has(left, i) & has(right, x);
+    (kept as u8) * x
 }
 
 // The position after a left and a right edge have taken one number.

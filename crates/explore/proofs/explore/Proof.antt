@@ -1,13 +1,19 @@
 -- `explore::explore` meets its contract: a cleared table holds no key, so the start is the first, and the rest is exploring on.
 -- Assumes nothing.
+use Prim.Native.Nat.{ℕ, _<_}
 use mathlib.Core.Path.{_≡_, _∙_}
 use native.Mathlib.Omega.{arith}
-use lib.ListN.{length}
+use lib.ListN.{length, getD}
+use mir.Syntax.{w8}
+use mir.Val.{Fits}
 use denote.Ref.{now}
 use borrow.Author.Needs.{needs}
 use Rattle.fra.specs.Rules.{bisimulation}
 use Rattle.fra_laws.proofs.Lengths.{length-of-map}
+use Rattle.table_laws.specs.Keys.{keyOf}
+use Rattle.explore_laws.specs.Stored.{keyLimit}
 use Rattle.explore_laws.specs.Exploring.{Explorable}
+use Rattle.explore_laws.proofs.Keys.{key-of-bytes}
 use Rattle.explore_laws.proofs.Stored.{stored-none}
 use Rattle.explore_laws.proofs.Exploring.{exploring-begins, first-overflows}
 use Rattle.explore.specs.declared.Explored.the-variants.{TooMany}
@@ -31,11 +37,25 @@ explorable c =
       right-states = omega (arith, c .pre .right .state-places);
     }
 
+-- the key of the start is below the limit, since its numbers are bytes
+start-small : (c : tie.Start) → keyOf (c .args .t .start) < keyLimit
+start-small c =
+    let p = c .args .t .start in
+    let long : length (p .partners) ≡ 6 = search needs in
+    let byte : (i : ℕ) → Fits w8 (getD (p .partners) i 0) = λ i. search needs in
+    key-of-bytes p (omega arith) (omega arith) long (λ i. byte i .fits)
+
 clear-requires : tie.Need-clear-requires
 clear-requires c κs = search needs
 
 visit-requires : tie.Need-visit-requires
-visit-requires c κs = rw (c .before .before .before .before .clear .ensures) (stored-none (now (c .before .before .before .before .before .before .before .args .table)))
+visit-requires c κs =
+    let cleared = c .before .before .before .before .before in
+    let start = cleared .before .before .before in
+    (rw (cleared .clear .ensures) (stored-none (now (start .args .table))), rw (c .key .ensures) (start-small start))
+
+key-requires : tie.Need-key-requires
+key-requires c κs = search needs
 
 enum-known-n : tie.Need-enum-known-n
 enum-known-n c = search needs
@@ -49,17 +69,17 @@ same-length c = search needs
 returns : tie.Need-returns
 returns c =
     let call = c .before .before .before .before in
-    let cleared = call .before .before .before .before .before in
+    let cleared = call .before .before .before .before .before .before in
     explores-from TooMany (cleared .clear .kept .0)
     (explores-too-many
-    (first-overflows (explorable (cleared .before .before .before)) bisimulation (rw (c .enum-told .given .1) at (call .visit .ensures)))
+    (first-overflows (explorable (cleared .before .before .before)) bisimulation (rw (c .enum-told .given .1, call .before .key .ensures) at (call .visit .ensures)))
     (call .visit .kept .0))
 
 expand-all-requires : tie.Need-expand-all-requires
 expand-all-requires c κs =
     let call = c .before .before .before .before .before .before in
-    let task = explorable (call .before .before .before .before .before .before .before .before) in
-    (task, exploring-begins task bisimulation (rw (c .before .before .n .given .1) at (call .visit .ensures)))
+    let task = explorable (call .before .before .before .before .before .before .before .before .before) in
+    (task, exploring-begins task bisimulation (rw (c .before .before .n .given .1, call .before .key .ensures) at (call .visit .ensures)))
 
 same-length-2 : tie.Need-same-length-2
 same-length-2 c = search needs
@@ -68,7 +88,7 @@ returns-2 : tie.Need-returns-2
 returns-2 c =
     let call = c .before .before .before .before .before .before .before .before .before in
     explores-from (c .before .before .expand-all .result)
-    (call .visit .kept .0 ∙ call .before .before .before .before .before .clear .kept .0)
+    (call .visit .kept .0 ∙ call .before .before .before .before .before .before .clear .kept .0)
     (c .before .before .expand-all .ensures)
 
 pub explore-spec : {M : Type 1} → statement M
@@ -76,6 +96,7 @@ explore-spec =
     tie.close
     (tie.spec
     clear-requires
+    key-requires
     visit-requires
     enum-known-n
     enum-told

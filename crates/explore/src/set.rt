@@ -12,6 +12,9 @@ const LINK: usize = 4;
 
 const HEAD: usize = 8;
 
+// As many buckets are used at most as positions have keys.
+const KEYS: usize = 67108864;
+
 pub enum Inserted {
     Present,
     Added,
@@ -19,12 +22,14 @@ pub enum Inserted {
     Full,
 }
 
-// The bucket of a key, by a multiplicative hash.
+// The bucket of a key, by a multiplicative hash that is scaled, since a division would take longer than the rest.
 fn bucket(key: u32, buckets: usize) -> usize
     requires { ⌜ 0 < buckets ⌝ }
     ensures { λ r. ⌜ (r ≡ bucketOf buckets key) × (r < buckets) ⌝ }
 {
-    ((key as u64) * 2654435769 / 67108864 % (buckets as u64)) as usize
+    let used = if buckets < KEYS { buckets } else { KEYS };
+    let hash = (key as u64) * 2654435769 % 4294967296;
+    (hash * (used as u64) / 4294967296) as usize
 }
 
 // The chain from a head has the key.

@@ -1,11 +1,11 @@
 -- The set of keys in the lent table: it starts empty, a walk along a chain says whether it has a key, and it takes one key more.
 -- Assumes nothing.
-use Prim.Native.Nat.{ℕ, zero, suc, _+_, _*_, _/_, _^_, _≤_, _<_}
+use Prim.Native.Nat.{ℕ, zero, suc, _+_, _*_, _%_, _^_, _≤_, _<_, min}
 use mathlib.Core.Path.{_≡_, refl, sym, _∙_, ap, subst}
 use mathlib.Core.Logic.{_⊎_, inl, inr}
 use mathlib.Core.Bool.{Bool, true, false, true≢false, false≢true}
 use mathlib.Core.List.{List, map, Memᴰ·cast, Memᴰ·map, Memᴰ·of-map}
-use native.Mathlib.Nat.{mod-lt}
+use native.Mathlib.Nat.{mul-le-mul-right}
 use native.Mathlib.Omega.{arith}
 use native.Mathlib.Decide.{ℕ-discrete, decLt}
 use lib.ListN.{getD, replicate}
@@ -87,9 +87,12 @@ stored-none table =
 
 -- ── The chain of a bucket ──
 
-bucket-below : (buckets k : ℕ) → 0 < buckets → bucketOf buckets k < buckets
+pub bucket-below : (buckets k : ℕ) → 0 < buckets → bucketOf buckets k < buckets
 unfolding bucketOf
-bucket-below buckets k h = mod-lt (k * 2654435769 / 67108864) h
+bucket-below buckets k h =
+    let hash : k * 2654435769 % 4294967296 ≤ 4294967295 = omega arith in
+    let scaled = mul-le-mul-right (min buckets 67108864) hash in
+    omega arith
 
 -- the chain of bucket b is walked from its head
 module _ {n b head : ℕ} {table : List ℕ} (s : Stored n table) (below : b < capacity table) (first : head ≡ headAt table b) where

@@ -1,6 +1,6 @@
 -- The set of keys in the lent table while positions are explored: an entry's three words are a key, its link, and the head of
 -- the bucket of the same number.
-use Prim.Native.Nat.{ℕ, suc, _+_, _*_, _/_, _%_, _≤_, _<_}
+use Prim.Native.Nat.{ℕ, suc, _+_, _*_, _/_, _%_, _≤_, _<_, min}
 use mathlib.Core.Path.{_≡_}
 use mathlib.Core.Bool.{Bool, true, false}
 use mathlib.Core.List.{List}
@@ -18,9 +18,10 @@ headAt table b = wordAt table (b * 12 + 8)
 abbrev pub entriesOf : List ℕ → Entries
 entriesOf table = record { key = keyAt table; link = linkAt table; head = headAt table }
 
--- the bucket of a key, by a multiplicative hash
+-- the bucket of a key, by a multiplicative hash of 32 bits scaled to the buckets, of which no more than 2 ^ 26 are used: as many as
+-- positions have keys
 unfoldable pub bucketOf : ℕ → ℕ → ℕ
-bucketOf buckets k = k * 2654435769 / 67108864 % buckets
+bucketOf buckets k = k * 2654435769 % 4294967296 * min buckets 67108864 / 4294967296
 
 -- the table with key k as entry n, before the chain of bucket b
 abbrev pub withEntry : List ℕ → ℕ → ℕ → ℕ → List ℕ

@@ -143,19 +143,7 @@ module _ {A : Type 0} where
       exchange true false false d = refl
       exchange false b c d = refl
 
-  -- two tests agree on the elements of a list
-  pub all-same : (f g : A → Bool) (l : List A) → ((x : A) → x ∈ l → f x ≡ g x) → all f l ≡ all g l
-  unfolding all
-  all-same f g [] h = refl
-  all-same f g (x ∷ l) h =
-      ap₂ (λ a b. a && b) (h x (List·Memᴰ·head refl)) (all-same f g l (λ y m. h y (List·Memᴰ·tail m)))
-
 module _ {A B : Type 0} where
-  pub all-map : (f : B → Bool) (g : A → B) (l : List A) → all f (map g l) ≡ all (λ x. f (g x)) l
-  unfolding all
-  all-map f g [] = refl
-  all-map f g (x ∷ l) = ap (λ b. f (g x) && b) (all-map f g l)
-
   pub any-map : (f : B → Bool) (g : A → B) (l : List A) → any f (map g l) ≡ any (λ x. f (g x)) l
   unfolding any
   any-map f g [] = refl

@@ -15,13 +15,13 @@ use Rattle.fra.specs.Position.{before}
 use Rattle.fra.specs.declared.Position.{Position}
 use Rattle.fra.specs.declared.Task.{Task}
 use Rattle.fra_laws.proofs.Tests.{not-both, fails-unless, and-left, and-right, and-intro, same-test}
-use Rattle.fra_laws.proofs.Lists.{any-witness, any-intro, count-intro, count-elim, least-found, least-none}
+use Rattle.fra_laws.proofs.Lists.{any-witness, any-intro, count-intro, count-elim, least-found, least-none, all-map}
 use Rattle.fra_laws.proofs.Order.{before-irreflexive, before-transitive, before-total}
 use Rattle.outcome.specs.Certificate.{Loss}
 use Rattle.outcome.specs.Check.{lossFrom, same, startRounds}
 use Rattle.outcome_laws.proofs.Accepted.{same-passes}
 use Rattle.checker_laws.specs.Records.{recordCount, positionAt, lossAt, positions, losses, Listing, placeOf, isFound, roundsFound, soonerFound}
-use Rattle.checker_laws.proofs.Lists.{least-at, least-nowhere, all-map, any-map}
+use Rattle.checker_laws.proofs.Lists.{least-at, least-nowhere, any-map}
 
 -- ── Places of records ──
 

@@ -16,7 +16,7 @@ use Rattle.fra.specs.Lists.{all, count}
 use Rattle.fra.specs.Position.{legal, before}
 use Rattle.fra.specs.declared.Task.{Task}
 use Rattle.fra_laws.proofs.Tests.{and-left, and-right, fails-unless}
-use Rattle.fra_laws.proofs.Lists.{all-at, count-intro, count-elim}
+use Rattle.fra_laws.proofs.Lists.{all-at, count-intro, count-elim, all-same, all-map}
 use Rattle.fra_laws.proofs.Order.{before-transitive}
 use Rattle.fra_laws.proofs.Records.{Wide, at-member, records-length, records-from}
 use Rattle.outcome.specs.Bytes.{wordAt}
@@ -24,7 +24,7 @@ use Rattle.outcome.specs.Check.{positionOf, lossFrom, rising, orderly}
 use Rattle.outcome.specs.Refusals.{records}
 use Rattle.outcome_laws.proofs.Bodies.{Whole, Stops}
 use Rattle.checker_laws.specs.Records.{recordCount, bodyFrom, positionAt, lossAt, positions, losses, risesAt, formedAt, formed, Listing}
-use Rattle.checker_laws.proofs.Lists.{by-places, all-both, all-same, all-map}
+use Rattle.checker_laws.proofs.Lists.{by-places, all-both}
 
 -- ── A body decides what is read from it, whatever follows ──
 

@@ -20,6 +20,7 @@ use Rattle.fra.specs.declared.Side.{Side}
 use Rattle.fra.specs.declared.Side.the-variants.{Left, Right}
 use Rattle.fra.specs.declared.IdCase.the-variants.{Held}
 use Rattle.fra.specs.declared.Attack.{Attack}
+use Rattle.fra_laws.proofs.Lists.{all-same, all-map}
 use Rattle.moves.proofs.Lists.{keep-map}
 use Rattle.moves.proofs.IdCases.{all-cases}
 use Rattle.moves.proofs.Attacks.{edgeAttacks, attacking, sideAttacks, attacks-by-side}
@@ -34,7 +35,7 @@ use Rattle.replies.proofs.Fans.{Holds}
 use Rattle.replies.proofs.Replies.{answersFrom, replier, attackFan, all-replies, after-is}
 use Rattle.outcome.specs.Check.{holds}
 use Rattle.checker_laws.specs.Tries.{leadsFrom, listedIn, answeredIn, casesAnsweredIn, answered, edgeAnswered, sideAnswered}
-use Rattle.checker_laws.proofs.Lists.{keep-none, keep-some, by-places, all-append, all-same, all-map, any-map, all-flatMap-keep}
+use Rattle.checker_laws.proofs.Lists.{keep-none, keep-some, by-places, all-append, any-map, all-flatMap-keep}
 
 -- ── Replies, one after another ──
 

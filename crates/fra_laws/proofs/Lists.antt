@@ -3,7 +3,7 @@ use Prim.Native.Nat.{ℕ, zero, suc, _+_, _≤_, _<_}
 use mathlib.Core.Path.{_≡_, refl, sym, _∙_, ap, subst}
 use mathlib.Core.Logic.{_⊎_, inl, inr, ⊎-elim}
 use mathlib.Core.Bool.{Bool, true, false, false≢true, true≢false}
-use mathlib.Core.List.{List, [], _∷_, flatMap, List·Memᴰ·head, List·Memᴰ·tail, List·Memᴰ·not-nil, List·Memᴰ·cases-cons, List·Memᴰ·append-cases, Memᴰ·append-left, Memᴰ·append-right, Memᴰ·cast}
+use mathlib.Core.List.{List, [], _∷_, map, flatMap, List·Memᴰ·head, List·Memᴰ·tail, List·Memᴰ·not-nil, List·Memᴰ·cases-cons, List·Memᴰ·append-cases, Memᴰ·append-left, Memᴰ·append-right, Memᴰ·cast}
 use mathlib.Core.Option.{Option, none, some}
 use native.Mathlib.Omega.{arith}
 use native.Mathlib.Decide.{ℕ-discrete}
@@ -46,6 +46,17 @@ module _ {A : Type 0} where
   all-intro f [] h = refl
   all-intro f (x ∷ xs) h =
       and-intro (f x) (all f xs) (h x (List·Memᴰ·head refl)) (all-intro f xs (λ y m. h y (List·Memᴰ·tail m)))
+
+  -- tests that agree on a list
+  pub all-same : (f h : A → Bool) (l : List A) → ((x : A) → x ∈ l → f x ≡ h x) → all f l ≡ all h l
+  unfolding all
+  all-same f h [] e = refl
+  all-same f h (x ∷ xs) e = rw (e x (List·Memᴰ·head refl), all-same f h xs (λ y m. e y (List·Memᴰ·tail m)))
+
+  pub all-map : {B : Type 0} (f : A → Bool) (g : B → A) (l : List B) → all f (map g l) ≡ all (λ x. f (g x)) l
+  unfolding all
+  all-map f g [] = refl
+  all-map f g (x ∷ l) = rw (all-map f g l)
 
   -- some element fails a test that does not pass at all
   pub all-counterexample : (f : A → Bool) (l : List A) → all f l ≡ false → (x : A) × (x ∈ l) × (f x ≡ false)

@@ -15,7 +15,7 @@ use Rattle.fra_laws.proofs.Records.{Wide, at-member, records-length, records-fr
 use Rattle.outcome.specs.Bytes.{word, wordAt}
 use Rattle.outcome.specs.Check.{positionOf}
 use Rattle.table_laws.specs.Table.{putWord, row, positionAt, positions}
-use Rattle.table_laws.proofs.Rows.{row-length}
+use Rattle.table_laws.proofs.Rows.{bytes-length, row-length}
 use Rattle.table_laws.proofs.Search.{positions-length, positions-at}
 use Rattle.table_laws.proofs.Words.{word-from, word-drop}
 use Rattle.rank_laws.specs.Rows.{rows, roundsAt}
@@ -23,10 +23,6 @@ use Rattle.rank_laws.specs.Rows.{rows, roundsAt}
 -- ── A row ──
 
 module _ (p : Position) (n : ℕ) (six : length (p .partners) ≡ 6) (rest : List ℕ) where
-  bytes-length : length (bytes p) ≡ 8
-  unfolding bytes
-  bytes-length = ap (λ (k : ℕ). suc (suc k)) six
-
   row-position : positionOf 6 (row p n ++ rest) ≡ p
   unfolding positionOf row bytes
   row-position =
@@ -39,13 +35,13 @@ module _ (p : Position) (n : ℕ) (six : length (p .partners) ≡ 6) (rest : Lis
   row-rounds b =
       word-from (row p n ++ rest) 8 n b
       (λ k c.
-      rw (append-assoc, ← bytes-length)
+      rw (append-assoc, ← bytes-length p six)
       (getD-append-add (bytes p) (word n ++ rest) k 0 ∙ List·getD-append (word n) rest 0 k c))
 
 row-write : (p : Position) (old new : ℕ) → length (p .partners) ≡ 6 → row p new ≡ sets (row p old) 8 (word new)
 unfolding row word
 row-write p old new six =
-    let long = bytes-length p old six [] in
+    let long = bytes-length p six in
     let e = length-append (bytes p) (word old) in
     sym
     (sets-eq (word new) (row p old) 8 (omega arith)

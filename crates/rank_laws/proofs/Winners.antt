@@ -5,12 +5,13 @@ use mathlib.Core.Path.{_≡_, refl, sym, _∙_}
 use mathlib.Core.Bool.{Bool, true, false}
 use mathlib.Core.List.{List, [], _∷_, _++_, List·Memᴰ·head, List·Memᴰ·tail}
 use mathlib.Core.Option.{some, orElse}
-use Rattle.fra.specs.Lists.{_∈_, all, first}
+use Rattle.fra.specs.Lists.{_∈_, first}
 use Rattle.fra.specs.Rules.{Rules}
 use Rattle.fra.specs.Game.{attacks, replies, after, lostWithin}
 use Rattle.fra.specs.declared.Position.{Position}
 use Rattle.fra.specs.declared.Task.{Task}
 use Rattle.fra.specs.declared.Attack.{Attack}
+use Rattle.fra_laws.proofs.Lists.{all-same}
 use Rattle.outcome.specs.Certificate.{wins, chosen}
 use Rattle.rank_laws.specs.Winner.{winsBy, winner}
 
@@ -43,11 +44,6 @@ module _ {A : Type 0} where
       step : (b : Bool) → f x ≡ b → h x ≡ b → first f xs ≡ first h xs → first f (x ∷ xs) ≡ first h (x ∷ xs)
       step true p q r = first-passes f x xs p ∙ sym (first-passes h x xs q)
       step false p q r = first-fails f x xs p ∙ r ∙ sym (first-fails h x xs q)
-
-  pub all-same : (f h : A → Bool) (l : List A) → ((x : A) → x ∈ l → f x ≡ h x) → all f l ≡ all h l
-  unfolding all
-  all-same f h [] e = refl
-  all-same f h (x ∷ xs) e = rw (e x (List·Memᴰ·head refl), all-same f h xs (λ y m. e y (List·Memᴰ·tail m)))
 
 module _ (g : Rules) (t : Task) where
   -- the chosen attack of n rounds is the first that wins under "lost within n rounds"

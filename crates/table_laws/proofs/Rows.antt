@@ -24,7 +24,7 @@ position-numbers p l r b zero = l
 position-numbers p l r b (suc zero) = r
 position-numbers p l r b (suc (suc i)) = b i
 
-bytes-length : (p : Position) → length (p .partners) ≡ 6 → length (bytes p) ≡ 8
+pub bytes-length : (p : Position) → length (p .partners) ≡ 6 → length (bytes p) ≡ 8
 unfolding bytes
 bytes-length p e = ap (λ (k : ℕ). suc (suc k)) e
 

@@ -15,6 +15,7 @@ use Rattle.fra.specs.Game.{replies}
 use Rattle.fra.specs.declared.Position.{Position}
 use Rattle.fra.specs.declared.Task.{Task}
 use Rattle.fra.specs.declared.Attack.{Attack}
+use Rattle.fra_laws.proofs.Lists.{all-same, all-map}
 use Rattle.moves.proofs.Lists.{keep-map}
 use Rattle.moves.proofs.Searches.{least-same, test, KeptFrom, kept-from}
 use Rattle.replies.specs.Fan.{candidateFor, candidateOf, candidateAt}
@@ -27,7 +28,6 @@ use Rattle.replies.specs.declared.search.Reply.the-variants.{To, Missing}
 use Rattle.replies.specs.declared.search.Found.{Found}
 use Rattle.replies.proofs.Replies.{answersFrom, replier, attackFan, all-replies, after-is}
 use Rattle.rank_laws.specs.Winner.{winsBy}
-use Rattle.rank_laws.proofs.Winners.{all-same}
 use Rattle.table_laws.proofs.Tables.{places-length, places-at}
 use Rattle.wins.specs.Wins.{candidates, answering, settles}
 
@@ -153,11 +153,6 @@ module _ (bytes : List ℕ) (n : ℕ) (c : Challenge) where
     settles-next j e = rw e
 
 -- ── What it says of an attack ──
-
-all-map : {A B : Type 0} (f : B → Bool) (g : A → B) (l : List A) → all f (map g l) ≡ all (λ x. f (g x)) l
-unfolding all
-all-map f g [] = refl
-all-map f g (x ∷ l) = rw (all-map f g l)
 
 -- where the candidates are the fan of the attack's edge, it is what the game says of the attack
 pub settles-wins : (t : Task) (lost : Position → Bool) (p : Position) (a : Attack) (l : List Candidate)

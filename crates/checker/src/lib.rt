@@ -1,12 +1,12 @@
 // The certificate checker (01, "Verdict, table, certificate" and "Turned back, in checking order"): a task and a proposed
 // certificate in, acceptance with its verdict and rounds or a refusal out.
+use checker_listing::formed::formed;
 use fra::Task;
-use listing::formed::formed;
 use outcome::Check;
 use outcome::Verdict;
 use outcome::layout;
-use reader::read_task;
 use task::Answer;
+use task_reader::read_task;
 ghost use mathlib.Core.Path.{_≡_};
 ghost use Rattle.fra.specs.Valid.{Valid};
 ghost use Rattle.outcome.specs.Verdicts.{equality};
@@ -21,7 +21,7 @@ fn check_kept(t: Task, certificate: &[u8]) -> Check
     if !formed(t, certificate, layout::KEPT_KIND, layout::KEPT_WIDTH) {
         return Check::Refused(13);
     }
-    if !kept::accepted(t, certificate) {
+    if !checker_kept::accepted(t, certificate) {
         return Check::Refused(14);
     }
     Check::Accepted {
@@ -38,12 +38,12 @@ fn check_losses(t: Task, certificate: &[u8]) -> Check
     if !formed(t, certificate, layout::LOST_KIND, layout::LOST_WIDTH) {
         return Check::Refused(13);
     }
-    if !lost::accepted(t, certificate) {
+    if !checker_lost::accepted(t, certificate) {
         return Check::Refused(14);
     }
     Check::Accepted {
         verdict: Verdict::Differ,
-        rounds: lost::start_rounds(t, certificate),
+        rounds: checker_lost::start_rounds(t, certificate),
     }
 }
 

@@ -21,18 +21,18 @@ use Rattle.fra.specs.declared.Side.the-variants.{Left, Right}
 use Rattle.fra.specs.declared.IdCase.the-variants.{Held}
 use Rattle.fra.specs.declared.Attack.{Attack}
 use Rattle.fra_laws.proofs.Lists.{all-same, all-map}
-use Rattle.moves.proofs.Lists.{keep-map}
-use Rattle.moves.proofs.IdCases.{all-cases}
-use Rattle.moves.proofs.Attacks.{edgeAttacks, attacking, sideAttacks, attacks-by-side}
-use Rattle.replies.specs.Fan.{candidateOf, candidateAt}
-use Rattle.replies.specs.Search.{challengeOf, isAnswer, afterReply, replyAnswer, replyFrom}
-use Rattle.replies.specs.declared.fan.Candidate.{Candidate}
-use Rattle.replies.specs.declared.search.Challenge.{Challenge}
-use Rattle.replies.specs.declared.search.Reply.{Reply}
-use Rattle.replies.specs.declared.search.Reply.the-variants.{To, Missing}
-use Rattle.replies.specs.declared.search.Found.{Found}
-use Rattle.replies.proofs.Fans.{Holds}
-use Rattle.replies.proofs.Replies.{answersFrom, replier, attackFan, all-replies, after-is}
+use Rattle.game_moves.proofs.Lists.{keep-map}
+use Rattle.game_moves.proofs.IdCases.{all-cases}
+use Rattle.game_moves.proofs.Attacks.{edgeAttacks, attacking, sideAttacks, attacks-by-side}
+use Rattle.game_replies.specs.Fan.{candidateOf, candidateAt}
+use Rattle.game_replies.specs.Search.{challengeOf, isAnswer, afterReply, replyAnswer, replyFrom}
+use Rattle.game_replies.specs.declared.fan.Candidate.{Candidate}
+use Rattle.game_replies.specs.declared.search.Challenge.{Challenge}
+use Rattle.game_replies.specs.declared.search.Reply.{Reply}
+use Rattle.game_replies.specs.declared.search.Reply.the-variants.{To, Missing}
+use Rattle.game_replies.specs.declared.search.Found.{Found}
+use Rattle.game_replies.proofs.Fans.{Holds}
+use Rattle.game_replies.proofs.Replies.{answersFrom, replier, attackFan, all-replies, after-is}
 use Rattle.outcome.specs.Check.{holds}
 use Rattle.checker_laws.specs.Tries.{leadsFrom, listedIn, answeredIn, casesAnsweredIn, answered, edgeAnswered, sideAnswered}
 use Rattle.checker_laws.proofs.Lists.{keep-none, keep-some, by-places, all-append, any-map, all-flatMap-keep}

@@ -14,11 +14,11 @@ use Rattle.fra.specs.declared.Side.{Side}
 use Rattle.fra.specs.declared.Attack.{Attack}
 use Rattle.outcome.specs.Certificate.{Loss}
 use Rattle.outcome.specs.Check.{same}
-use Rattle.moves.proofs.IdCases.{casesFrom}
-use Rattle.moves.proofs.Attacks.{edgeAttacks, attacking}
-use Rattle.replies.specs.Fan.{candidateAt}
-use Rattle.replies.specs.Search.{inCase, isAnswer, afterReply}
-use Rattle.replies.specs.declared.search.Challenge.{Challenge}
+use Rattle.game_moves.proofs.IdCases.{casesFrom}
+use Rattle.game_moves.proofs.Attacks.{edgeAttacks, attacking}
+use Rattle.game_replies.specs.Fan.{candidateAt}
+use Rattle.game_replies.specs.Search.{inCase, isAnswer, afterReply}
+use Rattle.game_replies.specs.declared.search.Challenge.{Challenge}
 
 -- what the replies to a challenge lead to, from place i of a fan of n candidates on
 unfoldable pub leadsFrom : List ℕ → ℕ → ℕ → Challenge → List Position

@@ -22,20 +22,20 @@ use Rattle.outcome.specs.Compare.{Outcome, capacity, decided, refusedLate, judg
 use Rattle.outcome.specs.declared.Comparison.{Comparison}
 use Rattle.outcome.specs.declared.Comparison.the-variants.{Refused}
 use Rattle.outcome_laws.proofs.Written.{rounds-least}
-use Rattle.explore.specs.Answers.{exploredIn, Explores}
-use Rattle.explore.specs.declared.Explored.the-variants.{Count, TooMany}
+use Rattle.comparer_explore.specs.Answers.{exploredIn, Explores}
+use Rattle.comparer_explore.specs.declared.Explored.the-variants.{Count, TooMany}
 use Rattle.table_laws.specs.Sorted.{sorted}
 use Rattle.table_laws.specs.Table.{keys, withKeys, laidOut}
 use Rattle.table_laws.proofs.Tables.{keys-length}
 use Rattle.table_laws.proofs.Rows.{laidOut-length}
-use Rattle.rank_laws.specs.Rows.{rows}
-use Rattle.rank.specs.Passes.{Begins}
+use Rattle.comparer_rank_laws.specs.Rows.{rows}
+use Rattle.comparer_rank.specs.Passes.{Begins}
 use Rattle.comparer_laws.proofs.Arranged.{arranged, entries-length, few-positions}
-use Rattle.wins.specs.Judgement.{Searchable}
-use Rattle.certify_laws.specs.Marking.{roundsFor}
-use Rattle.certify_laws.proofs.Records.{ranked-searchable, start-rounds}
-use Rattle.certify.specs.Outcome.{Ranked, certificateOf, answerOf, bufferAfter, Certifies}
-use Rattle.certify.specs.declared.Certified.the-variants.{Length, TooLong}
+use Rattle.game_wins.specs.Judgement.{Searchable}
+use Rattle.comparer_certify_laws.specs.Marking.{roundsFor}
+use Rattle.comparer_certify_laws.proofs.Records.{ranked-searchable, start-rounds}
+use Rattle.comparer_certify.specs.Outcome.{Ranked, certificateOf, answerOf, bufferAfter, Certifies}
+use Rattle.comparer_certify.specs.declared.Certified.the-variants.{Length, TooLong}
 use Rattle.comparer.specs.Outcomes.{Found, roundsFrom, Gives}
 
 -- ── What depends on the table's length alone ──

@@ -1,7 +1,7 @@
 // The comparer (01, "Verdict, table, certificate"): a task, a lent table and a lent certificate buffer in; a verdict or a
 // refusal out. It has no memory but what is lent.
-use certify::Certified;
-use explore::Explored;
+use comparer_certify::Certified;
+use comparer_explore::Explored;
 use fra::Task;
 use outcome::Comparison;
 use outcome::Verdict;
@@ -13,7 +13,7 @@ ghost use Rattle.outcome.specs.Bytes.{cleared};
 ghost use Rattle.outcome.specs.Verdicts.{equality};
 ghost use Rattle.outcome.specs.Compare.{decided, judge, compareTask, compare};
 ghost use Rattle.outcome.specs.declared.Comparison.the-variants.{Refused};
-ghost use Rattle.certify.specs.Outcome.{Ranked};
+ghost use Rattle.comparer_certify.specs.Outcome.{Ranked};
 ghost use Rattle.comparer.specs.Outcomes.{Found, roundsFrom, Gives};
 
 // The verdict by the start's rounds.
@@ -52,9 +52,9 @@ fn settle(table: &mut [u8], n: usize, t: Task)
     requires { ⌜ Valid 6 t ⌝ }
     ensures { λ _. ⌜ Ranked t n (now (table .exit)) ⌝ }
 {
-    sorting::sort_keys(table, n);
+    table_sorting::sort_keys(table, n);
     table::lay_out(table, n);
-    rank::rank(table, n, t);
+    comparer_rank::rank(table, n, t);
 }
 
 // The verdict, once the table has the rounds of all positions reached: 12, or the certificate is written.
@@ -64,8 +64,8 @@ fn judge(t: Task, table: &mut [u8], n: usize, certificate: &mut [u8]) -> Compari
     ensures { λ r. ⌜ Gives (judge equality t (now (table .entry)) (now (certificate .entry))) r (now (table .exit)) (now (certificate .exit)) ⌝ }
 {
     let start = t.start;
-    let rounds = marks::rounds_of(table, n, start);
-    let Certified::Length(length) = certify::certify(t, table, n, certificate) else {
+    let rounds = comparer_marks::rounds_of(table, n, start);
+    let Certified::Length(length) = comparer_certify::certify(t, table, n, certificate) else {
         return refuse(table, 12);
     };
     table::clear_from(table, n * table::ENTRY);
@@ -77,7 +77,7 @@ pub fn compare_task(t: Task, table: &mut [u8], certificate: &mut [u8]) -> Compar
     requires { ⌜ Valid 6 t ⌝ }
     ensures { λ r. ⌜ Gives (compareTask equality t (now (table .entry)) (now (certificate .entry))) r (now (table .exit)) (now (certificate .exit)) ⌝ }
 {
-    let Explored::Count(n) = explore::explore(t, table) else {
+    let Explored::Count(n) = comparer_explore::explore(t, table) else {
         return refuse(table, 11);
     };
     settle(table, n, t);
@@ -88,7 +88,7 @@ pub fn compare_task(t: Task, table: &mut [u8], certificate: &mut [u8]) -> Compar
 pub fn compare(file: &[u8], table: &mut [u8], certificate: &mut [u8]) -> Comparison
     ensures { λ r. ⌜ Gives (compare equality (now (file .entry)) (now (table .entry)) (now (certificate .entry))) r (now (table .exit)) (now (certificate .exit)) ⌝ }
 {
-    let read = reader::read_task(file);
+    let read = task_reader::read_task(file);
     let answer = read.answer;
     if let Answer::Refused(n) = answer {
         return Comparison::Refused(n);

@@ -25,7 +25,7 @@ use Rattle.table_laws.proofs.Keys.{key-bound, position-of-key, key-rises, legal
 use Rattle.table_laws.proofs.Sorted.{ascending-sorted}
 use Rattle.table_laws.proofs.Tables.{keys-of-with}
 use Rattle.table_laws.proofs.Rows.{row-length}
-use Rattle.rank_laws.specs.Rows.{rows}
+use Rattle.comparer_rank_laws.specs.Rows.{rows}
 
 -- positions of six registers that fit a key
 abbrev Packed : List Position → Type 0

@@ -40,7 +40,7 @@ use Rattle.outcome_laws.proofs.Encoding.{Bytes}
 use Rattle.outcome_laws.proofs.Check.{Accepts, accepts-kept, accepts-lost, check-accepted, check-refused}
 use Rattle.outcome_laws.proofs.Conditions.{kept-start-never-lost, listed-start-lost}
 use Rattle.outcome_laws.proofs.Own.{own-kept, own-lost}
-use Rattle.number_laws.proofs.Agreement.{opening-exists, enough-iff-lost, least-enough-iff-first-lost, never-enough-iff-never-lost}
+use Rattle.numbers_laws.proofs.Agreement.{opening-exists, enough-iff-lost, least-enough-iff-first-lost, never-enough-iff-never-lost}
 use Rattle.comparer.proofs.compare.Statement.{statement as compare-statement}
 use Rattle.comparer.proofs.compare.Met.{met as compare-met}
 use Rattle.checker.proofs.check.Statement.{statement as check-statement}

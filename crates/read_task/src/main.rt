@@ -49,7 +49,7 @@ fn print_states(m: Model) {
 fn print_edges(m: Model) {
     let mut k: u8 = 0;
     while k < m.edge_count {
-        print_edge(lookup::models::edge_of(m, k));
+        print_edge(task_lookup::models::edge_of(m, k));
         k += 1;
     }
 }
@@ -72,7 +72,7 @@ fn print_position(p: Position) {
 fn main() {
     let mut buffer = [0u8; 131072];
     let n = io::read_full(0, &mut buffer);
-    let read = reader::read_task(&buffer[..n]);
+    let read = task_reader::read_task(&buffer[..n]);
     let answer = read.answer;
     if let Answer::Refused(number) = answer {
         io::write_all(1, b"REFUSED");

@@ -1,0 +1,43 @@
+-- The records of a certificate, by the entries of a table.
+use Prim.Native.Nat.{ℕ, _/_}
+use mathlib.Core.Bool.{Bool}
+use mathlib.Core.List.{List, flatMap}
+use mathlib.Core.Option.{some}
+use lib.Dec.{eqb}
+use Rattle.fra.specs.Lists.{keep, count}
+use Rattle.fra.specs.Rules.{Rules}
+use Rattle.fra.specs.declared.Task.{Task}
+use Rattle.outcome.specs.Bytes.{allOnes}
+use Rattle.outcome.specs.Verdicts.{kindOf}
+use Rattle.outcome.specs.Certificate.{keptRecord, lossRecord, lossWith}
+use Rattle.outcome.specs.declared.Verdict.{Verdict}
+use Rattle.outcome.specs.declared.Verdict.the-variants.{Equal, Differ}
+use Rattle.table_laws.specs.Table.{positionAt}
+use Rattle.comparer_rank_laws.specs.Rows.{roundsAt}
+use Rattle.comparer_certify_laws.specs.Words.{isMarked}
+use Rattle.comparer_certify_laws.specs.Marking.{attackBy}
+
+-- an entry with these rounds has a record
+abbrev pub isListed : Verdict → ℕ → Bool
+isListed Equal w = eqb w allOnes
+isListed Differ w = isMarked w
+
+-- the bytes of a record
+abbrev pub recordSize : Verdict → ℕ
+recordSize Equal = 9
+recordSize Differ = 16
+
+-- those of the first n entries that have one
+unfoldable pub listedPlaces : Verdict → ℕ → List ℕ → List ℕ
+listedPlaces v n table = keep (λ i. isListed v (roundsAt table i)) (count 0 n)
+
+-- the record of entry i
+unfoldable pub recordAt : Rules → Task → Verdict → ℕ → List ℕ → ℕ → List ℕ
+recordAt g t Equal n table i = keptRecord (kindOf Equal) (positionAt table i)
+recordAt g t Differ n table i =
+    let k = roundsAt table i / 2 in
+    let p = positionAt table i in
+    lossRecord (kindOf Differ) (lossWith p (some k) (attackBy g t n table k p))
+
+unfoldable pub recordsOf : Rules → Task → Verdict → ℕ → List ℕ → List ℕ
+recordsOf g t v n table = flatMap (recordAt g t v n table) (listedPlaces v n table)

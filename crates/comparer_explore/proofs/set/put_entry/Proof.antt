@@ -1,0 +1,80 @@
+-- `comparer_explore::set::put_entry` meets its contract: it writes three words. Assumes nothing.
+use native.Mathlib.Numerals.{add-one}
+use native.Mathlib.Omega.{arith}
+use borrow.Author.Needs.{needs}
+use Rattle.outcome.specs.Compare.{capacity}
+use Rattle.comparer_explore.proofs.set.put_entry.Statement.{statement}
+use Rattle.comparer_explore.proofs.set.put_entry.Tie as tie
+
+mul-word-at : tie.Need-mul-word-at
+unfolding capacity
+mul-word-at c = omega arith
+
+add-word-at : tie.Need-add-word-at
+unfolding capacity
+add-word-at c = omega arith
+
+word-at-requires : tie.Need-word-at-requires
+unfolding capacity
+word-at-requires c κs = omega arith
+
+mul-put-word : tie.Need-mul-put-word
+mul-put-word c = omega arith
+
+put-word-requires : tie.Need-put-word-requires
+unfolding capacity
+put-word-requires c κs = omega arith
+
+mul-put-word-2 : tie.Need-mul-put-word-2
+mul-put-word-2 c = omega arith
+
+add-put-word : tie.Need-add-put-word
+add-put-word c = omega arith
+
+put-word-requires-2 : tie.Need-put-word-requires-2
+unfolding capacity
+put-word-requires-2 c κs = omega arith
+
+mul-put-word-3 : tie.Need-mul-put-word-3
+unfolding capacity
+mul-put-word-3 c = omega arith
+
+add-put-word-2 : tie.Need-add-put-word-2
+unfolding capacity
+add-put-word-2 c = omega arith
+
+add-put-word-3 : tie.Need-add-put-word-3
+add-put-word-3 c = search needs
+
+cast-put-word : tie.Need-cast-put-word
+cast-put-word c = search needs
+
+put-word-requires-3 : tie.Need-put-word-requires-3
+unfolding capacity
+put-word-requires-3 c κs = omega arith
+
+same-length : tie.Need-same-length
+same-length c = search needs
+
+returns : tie.Need-returns
+returns c = cc (add-one (c .before .before .before .before .before .before .before .before .before .before .before .before .before .before .before .args .n))
+
+pub put-entry-spec : {M : Type 1} → statement M
+put-entry-spec =
+    tie.close
+    (tie.spec
+    mul-word-at
+    add-word-at
+    word-at-requires
+    mul-put-word
+    put-word-requires
+    mul-put-word-2
+    add-put-word
+    put-word-requires-2
+    mul-put-word-3
+    add-put-word-2
+    add-put-word-3
+    cast-put-word
+    put-word-requires-3
+    same-length
+    returns)

@@ -1,0 +1,38 @@
+-- What holds while positions are explored: the table is the set of positions found, and the queue of those whose successors are
+-- still to be found.
+use Prim.Native.Nat.{ℕ, _≤_, _<_}
+use mathlib.Core.Path.{_≡_}
+use mathlib.Core.List.{List}
+use lib.ListN.{length}
+use Rattle.fra.specs.Lists.{_∈_}
+use Rattle.fra.specs.Rules.{Rules}
+use Rattle.fra.specs.Valid.{Valid}
+use Rattle.fra.specs.Reach.{successors, Reached}
+use Rattle.fra.specs.declared.Position.{Position}
+use Rattle.fra.specs.declared.Task.{Task}
+use Rattle.table_laws.specs.Keys.{keyOf, positionFrom}
+use Rattle.table_laws.specs.Table.{keyAt}
+use Rattle.comparer_explore_laws.specs.Stored.{Stored, Holds}
+
+-- the key of a position reached
+abbrev pub ReachedKey : Rules → Task → ℕ → Type 0
+ReachedKey g t k = (p : Position) × Reached g t p × (k ≡ keyOf p)
+
+-- the key of a successor
+abbrev pub SuccessorKey : Rules → Task → Position → ℕ → Type 0
+SuccessorKey g t p k = (q : Position) × (q ∈ successors g t p) × (k ≡ keyOf q)
+
+-- a valid task, with 01's limits on its counts of states
+pub record Explorable (t : Task) : Type 0 where
+  pub valid : Valid 6 t
+  pub left-states : t .left .«state_count» ≤ 16
+  pub right-states : t .right .«state_count» ≤ 16
+
+-- n positions are found in a table of `size` bytes, and the first `done` of them are expanded: all their successors are found
+pub record Exploring (g : Rules) (t : Task) (size n done : ℕ) (table : List ℕ) : Type 0 where
+  pub long : length table ≡ size
+  pub stored : Stored n table
+  pub reached : (i : ℕ) → i < n → ReachedKey g t (keyAt table i)
+  pub started : Holds n table (keyOf (t .start))
+  pub ahead : done ≤ n
+  pub expanded : (i : ℕ) → i < done → (k : ℕ) → SuccessorKey g t (positionFrom (keyAt table i)) k → Holds n table k

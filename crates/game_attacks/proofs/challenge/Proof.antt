@@ -1,0 +1,33 @@
+-- `game_attacks::challenge` meets its contract: each part is looked up. Assumes nothing.
+use borrow.Author.Needs.{needs}
+use Rattle.game_attacks.proofs.challenge.Statement.{statement}
+use Rattle.game_attacks.proofs.challenge.Tie as tie
+
+model-of-requires : tie.Need-model-of-requires
+model-of-requires c κs = search needs
+
+edge-of-requires : tie.Need-edge-of-requires
+edge-of-requires c κs = search needs
+
+register-of-requires : tie.Need-register-of-requires
+register-of-requires c κs = search needs
+
+set-of-requires : tie.Need-set-of-requires
+set-of-requires c κs = search needs
+
+partner-requires : tie.Need-partner-requires
+partner-requires c κs = search needs
+
+returns : tie.Need-returns
+returns c = cc
+
+pub challenge-spec : {M : Type 1} → statement M
+challenge-spec =
+    tie.close
+    (tie.spec
+    model-of-requires
+    edge-of-requires
+    register-of-requires
+    set-of-requires
+    partner-requires
+    returns)

@@ -1,0 +1,115 @@
+-- `game_moves::rounds::joint` meets its contract, kind by kind. Assumes nothing.
+use borrow.Author.Needs.{needs}
+use Rattle.fra_laws.proofs.Successors.{compatible}
+use Rattle.game_moves.proofs.rounds.joint.Statement.{statement}
+use Rattle.game_moves.proofs.rounds.joint.Tie as tie
+
+enum-known-left : tie.Need-enum-known-left
+enum-known-left c = search needs
+
+enum-known-right : tie.Need-enum-known-right
+enum-known-right c = search needs
+
+partner-requires : tie.Need-partner-requires
+partner-requires c κs = search needs
+
+enum-told : tie.Need-enum-told
+enum-told c = search needs
+
+partner-requires-2 : tie.Need-partner-requires-2
+partner-requires-2 c κs = search needs
+
+enum-told-2 : tie.Need-enum-told-2
+enum-told-2 c = search needs
+
+enum-told-3 : tie.Need-enum-told-3
+enum-told-3 c = search needs
+
+enum-known-right-2 : tie.Need-enum-known-right-2
+enum-known-right-2 c = search needs
+
+partner-requires-3 : tie.Need-partner-requires-3
+partner-requires-3 c κs = search needs
+
+enum-told-4 : tie.Need-enum-told-4
+enum-told-4 c = search needs
+
+enum-told-5 : tie.Need-enum-told-5
+enum-told-5 c = search needs
+
+enum-told-6 : tie.Need-enum-told-6
+enum-told-6 c = search needs
+
+enum-told-7 : tie.Need-enum-told-7
+enum-told-7 c = search needs
+
+enum-told-8 : tie.Need-enum-told-8
+enum-told-8 c = search needs
+
+enum-told-9 : tie.Need-enum-told-9
+enum-told-9 c = search needs
+
+returns : tie.Need-returns
+unfolding compatible
+returns c = rw (c .before .before .before .before .before .left .given .1, c .before .before .right .given .1, c .partner .ensures)
+
+returns-2 : tie.Need-returns-2
+unfolding compatible
+returns-2 c = rw (c .before .before .before .before .left .given .1, c .before .enum-told .given .1, c .partner2 .ensures)
+
+returns-3 : tie.Need-returns-3
+unfolding compatible
+returns-3 c = rw (c .before .before .before .left .given .1, c .enum-told2 .given .1)
+
+returns-4 : tie.Need-returns-4
+unfolding compatible
+returns-4 c = rw (c .before .before .before .before .enum-told3 .given .1, c .before .before .right2 .given .1, c .partner3 .ensures)
+
+returns-5 : tie.Need-returns-5
+unfolding compatible
+returns-5 c = rw (c .before .before .enum-told3 .given .1, c .enum-told4 .given .1)
+
+returns-6 : tie.Need-returns-6
+unfolding compatible
+returns-6 c = rw (c .before .before .enum-told3 .given .1, c .enum-told5 .given .1)
+
+returns-7 : tie.Need-returns-7
+unfolding compatible
+returns-7 c = rw (c .before .before .enum-told6 .given .1, c .enum-told7 .given .1)
+
+returns-8 : tie.Need-returns-8
+unfolding compatible
+returns-8 c = rw (c .before .before .enum-told6 .given .1, c .enum-told8 .given .1)
+
+returns-9 : tie.Need-returns-9
+unfolding compatible
+returns-9 c = rw (c .before .before .enum-told6 .given .1, c .enum-told9 .given .1)
+
+pub joint-spec : {M : Type 1} → statement M
+joint-spec =
+    tie.close
+    (tie.spec
+    enum-known-left
+    enum-known-right
+    partner-requires
+    enum-told
+    partner-requires-2
+    enum-told-2
+    enum-told-3
+    enum-known-right-2
+    partner-requires-3
+    enum-told-4
+    enum-told-5
+    enum-told-6
+    enum-told-7
+    enum-told-8
+    enum-told-9
+    returns
+    returns-2
+    returns-3
+    returns-4
+    returns-5
+    returns-6
+    returns-7
+    returns-8
+    returns-9)

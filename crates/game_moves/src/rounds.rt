@@ -1,0 +1,80 @@
+// What a round leads to.
+use fra::EdgeKind;
+use fra::Model;
+use fra::Position;
+use fra::Side;
+use game_registers::partners::has;
+use game_registers::partners::partner;
+ghost use mathlib.Core.Path.{_≡_};
+ghost use Rattle.fra.specs.Game.{rejoined, remaining};
+ghost use Rattle.fra.specs.declared.Side.the-variants.{Left};
+ghost use Rattle.fra_laws.proofs.Successors.{compatible};
+ghost use Rattle.game_moves.specs.Rounds.{movedTo};
+
+// Where an edge leads: the register that holds the number taken, the to state and its register set.
+pub struct Target {
+    pub register: u8,
+    pub state: u8,
+    pub set: u8,
+}
+
+// The partner of left register i, which had partner x, once left register a and right register b hold the number taken.
+pub fn rejoined(a: u8, b: u8, i: u8, x: u8) -> u8
+    ensures { λ r. ⌜ r ≡ rejoined a b i x ⌝ }
+{
+    if i == a {
+        return b;
+    }
+    if x == b { 0 } else { x }
+}
+
+// The partner x of left register i, if both are in the to sets. Both tests are made: a jump on the first would be guessed wrong
+// too often.
+pub fn remaining(left: u8, right: u8, i: u8, x: u8) -> u8
+    ensures { λ r. ⌜ r ≡ remaining left right i x ⌝ }
+{
+    let kept = has(left, i) & has(right, x);
+    (kept as u8) * x
+}
+
+// The position after a left and a right edge have taken one number.
+pub fn moved(p: Position, left: Target, right: Target) -> Position
+    ensures { λ r. ⌜ r ≡ movedTo p left right ⌝ }
+{
+    let before = p.partners;
+    let mut partners = Position::EMPTY;
+    let mut i: u8 = 0;
+    while i < Model::REGISTERS {
+        let x = rejoined(left.register, right.register, i + 1, before[i as usize]);
+        partners[i as usize] = remaining(left.set, right.set, i + 1, x);
+        i += 1;
+    }
+    Position {
+        left: left.state,
+        right: right.state,
+        partners,
+    }
+}
+
+// A left and a right edge of these kinds can take one number in a round.
+pub fn joint(p: Position, left: EdgeKind, right: EdgeKind) -> bool
+    ensures { λ r. ⌜ r ≡ compatible p Left left right ⌝ }
+{
+    match left {
+        EdgeKind::Known(i) => match right {
+            EdgeKind::Known(j) => partner(p, Side::Left, i) == j,
+            EdgeKind::LocallyFresh(_) => partner(p, Side::Left, i) == 0,
+            EdgeKind::GloballyFresh(_) => false,
+        },
+        EdgeKind::LocallyFresh(_) => match right {
+            EdgeKind::Known(j) => partner(p, Side::Right, j) == 0,
+            EdgeKind::LocallyFresh(_) => true,
+            EdgeKind::GloballyFresh(_) => true,
+        },
+        EdgeKind::GloballyFresh(_) => match right {
+            EdgeKind::Known(_) => false,
+            EdgeKind::LocallyFresh(_) => true,
+            EdgeKind::GloballyFresh(_) => true,
+        },
+    }
+}

@@ -1,0 +1,26 @@
+-- `game_registers::kinds::is_known` meets its contract, kind by kind. Assumes nothing.
+use borrow.Author.Needs.{needs}
+use Rattle.game_registers.proofs.kinds.is_known.Statement.{statement}
+use Rattle.game_registers.proofs.kinds.is_known.Tie as tie
+
+enum-known-kind : tie.Need-enum-known-kind
+enum-known-kind c = search needs
+
+enum-told : tie.Need-enum-told
+enum-told c = search needs
+
+enum-told-2 : tie.Need-enum-told-2
+enum-told-2 c = search needs
+
+returns : tie.Need-returns
+returns c = rw (c .before .kind .given .1)
+
+returns-2 : tie.Need-returns-2
+returns-2 c = search needs
+
+returns-3 : tie.Need-returns-3
+returns-3 c = search needs
+
+pub is-known-spec : {M : Type 1} → statement M
+is-known-spec =
+    tie.close (tie.spec enum-known-kind enum-told enum-told-2 returns returns-2 returns-3)

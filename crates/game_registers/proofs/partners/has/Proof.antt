@@ -1,0 +1,27 @@
+-- `game_registers::partners::has` meets its contract: a set of one byte has no register past the eighth. Assumes nothing.
+use mathlib.Core.Path.{sym}
+use native.Mathlib.Omega.{arith}
+use borrow.Author.Needs.{needs}
+use Rattle.fra.specs.Registers.{has}
+use Rattle.game_registers.proofs.Bits.{has-none, has-bit}
+use Rattle.game_registers.proofs.partners.has.Statement.{statement}
+use Rattle.game_registers.proofs.partners.has.Tie as tie
+
+returns : tie.Need-returns
+unfolding has
+returns c = search needs
+
+returns-2 : tie.Need-returns-2
+returns-2 c = let a = c .before .before .args in sym (has-none (a .set) (a .i) (omega arith) (omega arith))
+
+sub-result : tie.Need-sub-result
+sub-result c = search needs
+
+shr-result : tie.Need-shr-result
+shr-result c = search needs
+
+returns-3 : tie.Need-returns-3
+returns-3 c = let a = c .before .before .args in sym (has-bit (a .set) (a .i) (omega arith))
+
+pub has-spec : {M : Type 1} → statement M
+has-spec = tie.close (tie.spec returns returns-2 sub-result shr-result returns-3)

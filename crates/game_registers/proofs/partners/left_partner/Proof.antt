@@ -1,0 +1,61 @@
+-- `game_registers::partners::left_partner` meets its contract. The loop's invariant: the partner is found from place `i` on. The
+-- measure is how many places are left. Assumes nothing.
+use Prim.Native.Nat.{_+_, _-_, _≤_}
+use mathlib.Core.Path.{_≡_, refl, sym, _∙_}
+use native.Mathlib.Omega.{arith}
+use lib.ListN.{length, drop}
+use borrow.Author.Needs.{needs}
+use Rattle.fra.specs.Position.{leftPartner}
+use Rattle.game_registers.proofs.Places.{left-partner-here, left-partner-later, left-partner-none}
+use Rattle.game_registers.proofs.partners.left_partner.Statement.{statement}
+use Rattle.game_registers.proofs.partners.left_partner.Tie as tie
+
+abbrev Inv-loop : tie.InvT-loop
+Inv-loop j partners i₀ i =
+    (i ≤ 6) × (length partners ≡ 6) × (leftPartner 1 partners j ≡ leftPartner (i + 1) (drop i partners) j)
+
+abbrev μ-loop : tie.MeasureT-loop
+μ-loop j partners i₀ i = 6 - i
+
+loop-holds : tie.Need-loop-holds Inv-loop μ-loop
+loop-holds c = (search needs, search needs, refl)
+
+cast-if1 : tie.Need-cast-if1 Inv-loop μ-loop
+cast-if1 c = search needs
+
+array-read-if1 : tie.Need-array-read-if1 Inv-loop μ-loop
+array-read-if1 c = search needs
+
+add-result : tie.Need-add-result Inv-loop μ-loop
+add-result c = search needs
+
+returns : tie.Need-returns Inv-loop μ-loop
+returns c =
+    let here = c .before .before in
+    let a = here .before .args in
+    sym (here .loop .inv .2 ∙ left-partner-here (a .t1) (here .loop .i) (a .j) (omega arith) (c .if1 .taken))
+
+add-i : tie.Need-add-i Inv-loop μ-loop
+add-i c = search needs
+
+loop-less : tie.Need-loop-less Inv-loop μ-loop
+loop-less c = search needs
+
+loop-again : tie.Need-loop-again Inv-loop μ-loop
+loop-again c =
+    let here = c .before .before in
+    let a = here .before .args in (
+      omega arith,
+      here .loop .inv .1,
+      here .loop .inv .2 ∙ left-partner-later (a .t1) (here .loop .i) (a .j) (omega arith) (c .if1 .left),
+    )
+
+returns-2 : tie.Need-returns-2 Inv-loop μ-loop
+returns-2 c =
+    let a = c .before .before .args in
+    sym (c .before .loop .inv .2 ∙ left-partner-none (a .t1) (c .before .loop .i) (a .j) (omega arith))
+
+pub left-partner-spec : {M : Type 1} → statement M
+left-partner-spec =
+    tie.close
+    (tie.spec Inv-loop μ-loop loop-holds cast-if1 array-read-if1 add-result returns add-i loop-less loop-again returns-2)

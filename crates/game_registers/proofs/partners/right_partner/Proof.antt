@@ -1,0 +1,34 @@
+-- `game_registers::partners::right_partner` meets its contract: past the last left register there is no partner. Assumes nothing.
+use mathlib.Core.Path.{_≡_, sym}
+use native.Mathlib.Omega.{arith}
+use lib.ListN.{length}
+use borrow.Author.Needs.{needs}
+use Rattle.fra.specs.Position.{rightPartner}
+use Rattle.game_registers.proofs.Places.{right-partner-at, right-partner-past}
+use Rattle.game_registers.proofs.partners.right_partner.Statement.{statement}
+use Rattle.game_registers.proofs.partners.right_partner.Tie as tie
+
+returns : tie.Need-returns
+unfolding rightPartner
+returns c = search needs
+
+returns-2 : tie.Need-returns-2
+returns-2 c =
+    let a = c .before .before .args in
+    let long : length (a .t1) ≡ 6 = search needs in
+    sym (right-partner-past (a .t1) (a .i) (omega arith))
+
+sub-result : tie.Need-sub-result
+sub-result c = search needs
+
+cast-result : tie.Need-cast-result
+cast-result c = search needs
+
+array-read-result : tie.Need-array-read-result
+array-read-result c = search needs
+
+returns-3 : tie.Need-returns-3
+returns-3 c = let a = c .before .before .args in sym (right-partner-at (a .t1) (a .i) (omega arith))
+
+pub right-partner-spec : {M : Type 1} → statement M
+right-partner-spec = tie.close (tie.spec returns returns-2 sub-result cast-result array-read-result returns-3)

@@ -1,0 +1,13 @@
+-- `game_replies::fan::candidate_for` meets its contract. Assumes nothing.
+use borrow.Author.Needs.{needs}
+use Rattle.game_replies.proofs.fan.candidate_for.Statement.{statement}
+use Rattle.game_replies.proofs.fan.candidate_for.Tie as tie
+
+register-of-requires : tie.Need-register-of-requires
+register-of-requires c κs = search needs
+
+returns : tie.Need-returns
+returns c = rw (c .register-of .ensures)
+
+pub candidate-for-spec : {M : Type 1} → statement M
+candidate-for-spec = tie.close (tie.spec register-of-requires returns)

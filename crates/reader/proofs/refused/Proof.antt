@@ -1,9 +1,0 @@
--- `reader::refused` meets its contract. Assumes nothing.
-use Rattle.reader.proofs.refused.Statement.{statement}
-use Rattle.reader.proofs.refused.Tie as tie
-
-returns : tie.Need-returns
-returns c = rw (c .no-task .ensures)
-
-pub refused-spec : {M : Type 1} → statement M
-refused-spec = tie.close (tie.spec (λ c κs. tt) returns)

@@ -1,0 +1,33 @@
+-- `task_records::pair::with_pair` meets its contract: a store past the end changes nothing. Assumes nothing.
+use Prim.Native.Nat.{_-_}
+use mathlib.Core.Path.{_≡_}
+use mathlib.Core.Logic.{⊎-elim}
+use native.Mathlib.Omega.{arith}
+use lib.ListN.{length}
+use lib.Seq.{set-out}
+use borrow.Author.Needs.{needs}
+use Rattle.task.specs.TaskFile.{withPair}
+use Rattle.fra_laws.proofs.Lengths.{length-of-map}
+use Rattle.task_records.proofs.pair.with_pair.Statement.{statement}
+use Rattle.task_records.proofs.pair.with_pair.Tie as tie
+
+sub-start : tie.Need-sub-start
+sub-start c = search needs
+
+cast-start : tie.Need-cast-start
+cast-start c = search needs
+
+element-write-start : tie.Need-element-write-start
+element-write-start c = search needs
+
+returns : tie.Need-returns
+unfolding withPair
+returns c =
+    let a = c .before .before .args in
+    let long : length (a .t .start .partners) ≡ 6 = search (needs, length-of-map) in
+    ⊎-elim (λ w. rw (w .1))
+    (λ w. rw (w .1, set-out (a .t .start .partners) (a .left - 1) (a .right) (omega arith)))
+    (c .if1 .came)
+
+pub with-pair-spec : {M : Type 1} → statement M
+with-pair-spec = tie.close (tie.spec sub-start cast-start element-write-start returns)

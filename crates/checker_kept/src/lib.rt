@@ -10,7 +10,6 @@ use fra::Side;
 use fra::Task;
 use game_moves::cases::CaseFound;
 use game_moves::cases::next_case;
-use game_registers::partners::other;
 use game_replies::fan;
 use game_replies::search::Challenge;
 use game_replies::search::Reply;
@@ -106,7 +105,7 @@ fn edge_answered(t: Task, certificate: &[u8], p: Position, side: Side, k: u8) ->
     let count = game_attacks::fan_of(t, p, a, &mut candidates);
     let e = edge_of(model_of(t, side), k);
     let kind = e.kind;
-    let away = other(side);
+    let away = side.other();
     let others = set_of(model_of(t, away), game_attacks::state_of(p, away));
     cases_answered(
         certificate,

@@ -2,7 +2,7 @@
 use fra::Model;
 use fra::Position;
 use fra::Task;
-use game_registers::partners::has;
+use fra::has;
 use task_lookup::bytes::contains;
 use task_lookup::models::set_of;
 ghost use mathlib.Core.Path.{_≡_};

@@ -8,7 +8,6 @@ use fra::Position;
 use fra::Side;
 use fra::Task;
 use game_attacks::state_of;
-use game_registers::partners::other;
 use game_replies::fan;
 use game_replies::search::Reply;
 use game_replies::search::next_reply;
@@ -67,7 +66,7 @@ fn mark_replies(
     let case = a.case;
     let edge = a.edge as usize;
     let challenge = game_index::challenge(fan::candidate_at(own, edge), p, side, case);
-    let away = other(side);
+    let away = side.other();
     let tag = game_index::tag_of(states, side, edge);
     let fan = game_index::fan_of(states, away, state_of(p, away), tag);
     let end = fan.end;

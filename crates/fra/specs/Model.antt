@@ -1,5 +1,5 @@
 -- 01, "A reader model": a model is a fresh-register automaton.
-use Prim.Native.Nat.{ℕ}
+use Prim.Native.Nat.{ℕ, zero, suc}
 use mathlib.Core.Bool.{Bool, true, false}
 use mathlib.Core.List.{List, [], _∷_}
 use lib.ListN.{getD}
@@ -55,6 +55,12 @@ abbrev pub kindNumber : EdgeKind → ℕ
 kindNumber (Known i) = 0
 kindNumber (LocallyFresh i) = 1
 kindNumber (GloballyFresh i) = 2
+
+-- the kind with this number, of register i
+abbrev pub kindOf : ℕ → ℕ → EdgeKind
+kindOf zero i = Known i
+kindOf (suc zero) i = LocallyFresh i
+kindOf (suc (suc n)) i = GloballyFresh i
 
 -- "An edge has a from state, a tag 0 to 31, a kind, a register i and a to state": its five bytes
 unfoldable pub edgeBytes : Edge → List ℕ

@@ -1,6 +1,9 @@
 // Fresh-register automata (01, "A reader model" and "Positions and rounds"): the types that every other crate speaks in.
 ghost use mathlib.Core.Path.{_≡_};
-ghost use Rattle.fra.specs.Position.{unmatched};
+ghost use Rattle.fra.specs.Registers.{has};
+ghost use Rattle.fra.specs.Model.{registerOf, kindNumber, kindOf, isKnown, isLocallyFresh, isFresh};
+ghost use Rattle.fra.specs.Rules.{other};
+ghost use Rattle.fra.specs.Position.{unmatched, stateOf, rightPartner, leftPartner, partner};
 
 // What an edge takes, with the register that it reads or writes.
 pub enum EdgeKind {
@@ -10,6 +13,71 @@ pub enum EdgeKind {
     LocallyFresh(u8),
     // a number that is not in the history; it is stored in the register
     GloballyFresh(u8),
+}
+
+impl EdgeKind {
+    // The kind with this number, of this register.
+    pub fn of(number: u8, register: u8) -> Self
+        ensures { λ r. ⌜ r ≡ kindOf number register ⌝ }
+    {
+        match number {
+            0 => EdgeKind::Known(register),
+            1 => EdgeKind::LocallyFresh(register),
+            _ => EdgeKind::GloballyFresh(register),
+        }
+    }
+
+    pub fn number(self) -> u8
+        ensures { λ r. ⌜ r ≡ kindNumber self ⌝ }
+    {
+        match self {
+            EdgeKind::Known(_) => 0,
+            EdgeKind::LocallyFresh(_) => 1,
+            EdgeKind::GloballyFresh(_) => 2,
+        }
+    }
+
+    // The register that the edge reads or writes.
+    pub fn register(self) -> u8
+        ensures { λ r. ⌜ r ≡ registerOf self ⌝ }
+    {
+        match self {
+            EdgeKind::Known(i) => i,
+            EdgeKind::LocallyFresh(i) => i,
+            EdgeKind::GloballyFresh(i) => i,
+        }
+    }
+
+    // A known edge of register j.
+    pub fn is_known(self, j: u8) -> bool
+        ensures { λ r. ⌜ r ≡ isKnown j self ⌝ }
+    {
+        match self {
+            EdgeKind::Known(i) => i == j,
+            EdgeKind::LocallyFresh(_) => false,
+            EdgeKind::GloballyFresh(_) => false,
+        }
+    }
+
+    pub fn is_locally_fresh(self) -> bool
+        ensures { λ r. ⌜ r ≡ isLocallyFresh self ⌝ }
+    {
+        match self {
+            EdgeKind::Known(_) => false,
+            EdgeKind::LocallyFresh(_) => true,
+            EdgeKind::GloballyFresh(_) => false,
+        }
+    }
+
+    pub fn is_fresh(self) -> bool
+        ensures { λ r. ⌜ r ≡ isFresh self ⌝ }
+    {
+        match self {
+            EdgeKind::Known(_) => false,
+            EdgeKind::LocallyFresh(_) => true,
+            EdgeKind::GloballyFresh(_) => true,
+        }
+    }
 }
 
 // A transition.
@@ -24,6 +92,19 @@ pub struct Edge {
 pub struct State {
     pub set: u8,
     pub mark: u8,
+}
+
+// The register is in the set.
+pub fn has(set: u8, i: u8) -> bool
+    ensures { λ r. ⌜ r ≡ has set i ⌝ }
+{
+    if i == 0 {
+        return false;
+    }
+    if 8 < i {
+        return false;
+    }
+    (set >> (i - 1)) % 2 == 1
 }
 
 // A fresh-register automaton. States and edges past their counts are zeros.
@@ -78,6 +159,54 @@ impl Position {
             partners: Position::EMPTY,
         }
     }
+
+    // A side's state.
+    pub fn state(self, side: Side) -> u8
+        ensures { λ r. ⌜ r ≡ stateOf self side ⌝ }
+    {
+        match side {
+            Side::Left => self.left,
+            Side::Right => self.right,
+        }
+    }
+
+    // The register of the other side with the same number as register i of this side; 0 for none.
+    pub fn partner(self, side: Side, i: u8) -> u8
+        ensures { λ r. ⌜ r ≡ partner self side i ⌝ }
+    {
+        let partners = self.partners;
+        match side {
+            Side::Left => right_partner(partners, i),
+            Side::Right => left_partner(partners, i),
+        }
+    }
+}
+
+// The partner of left register i.
+fn right_partner(partners: [u8; 6], i: u8) -> u8
+    ensures { λ r. ⌜ r ≡ rightPartner partners i ⌝ }
+{
+    if i == 0 {
+        return 0;
+    }
+    if Model::REGISTERS < i {
+        return 0;
+    }
+    partners[(i - 1) as usize]
+}
+
+// The left register whose partner is right register j.
+fn left_partner(partners: [u8; 6], j: u8) -> u8
+    ensures { λ r. ⌜ r ≡ leftPartner 1 partners j ⌝ }
+{
+    let mut i: u8 = 0;
+    while i < Model::REGISTERS {
+        if partners[i as usize] == j {
+            return i + 1;
+        }
+        i += 1;
+    }
+    0
 }
 
 // Two models, and the position that a comparison starts from.
@@ -90,6 +219,17 @@ pub struct Task {
 pub enum Side {
     Left,
     Right,
+}
+
+impl Side {
+    pub fn other(self) -> Self
+        ensures { λ r. ⌜ r ≡ other self ⌝ }
+    {
+        match self {
+            Side::Left => Side::Right,
+            Side::Right => Side::Left,
+        }
+    }
 }
 
 // Where the number of an attack stands before the round (01: the id case).

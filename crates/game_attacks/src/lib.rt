@@ -7,9 +7,6 @@ use fra::Side;
 use fra::Task;
 use game_moves::cases::has_case;
 use game_moves::rounds::Target;
-use game_registers::kinds;
-use game_registers::partners::other;
-use game_registers::partners::partner;
 use game_replies::fan;
 use game_replies::search::Challenge;
 use task_lookup::models::edge_of;
@@ -68,7 +65,7 @@ pub fn is_attack(t: Task, p: Position, a: Attack) -> bool
         return false;
     }
     let kind = e.kind;
-    let away = other(side);
+    let away = side.other();
     let others = set_of(model_of(t, away), state_of(p, away));
     has_case(p, side, kind, others, case)
 }
@@ -82,7 +79,7 @@ pub fn challenge(t: Task, p: Position, a: Attack) -> Challenge
     let own = model_of(t, side);
     let e = edge_of(own, a.edge);
     let kind = e.kind;
-    let register = kinds::register_of(kind);
+    let register = kind.register();
     let target = Target {
         register,
         state: e.to,
@@ -92,7 +89,7 @@ pub fn challenge(t: Task, p: Position, a: Attack) -> Challenge
         position: p,
         side,
         target,
-        partner: partner(p, side, register),
+        partner: p.partner(side, register),
         case,
     }
 }
@@ -120,6 +117,6 @@ pub fn fan_of(t: Task, p: Position, a: Attack, out: &mut [u8; fan::SIZE]) -> usi
     let side = a.side;
     let own = model_of(t, side);
     let e = edge_of(own, a.edge);
-    let away = other(side);
+    let away = side.other();
     fan::fan(model_of(t, away), state_of(p, away), e.tag, out)
 }

@@ -6,7 +6,6 @@ use fra::Model;
 use fra::Position;
 use fra::Side;
 use fra::Task;
-use game_registers::partners::partner;
 use game_replies::fan;
 use game_replies::fan::Candidate;
 use game_replies::search::Challenge;
@@ -222,7 +221,7 @@ pub fn challenge(c: Candidate, p: Position, side: Side, case: IdCase) -> Challen
         position: p,
         side,
         target,
-        partner: partner(p, side, target.register),
+        partner: p.partner(side, target.register),
         case,
     }
 }

@@ -4,10 +4,7 @@ use fra::IdCase;
 use fra::Model;
 use fra::Position;
 use fra::Side;
-use game_registers::kinds;
-use game_registers::partners::has;
-use game_registers::partners::other;
-use game_registers::partners::partner;
+use fra::has;
 ghost use mathlib.Core.Path.{_≡_};
 ghost use Rattle.game_moves.specs.Cases.{caseAt, unpartnered, hasCaseIn, caseFrom};
 
@@ -38,7 +35,7 @@ fn case_of(n: u8) -> IdCase
 fn unpartnered(p: Position, side: Side, set: u8, j: u8) -> bool
     ensures { λ r. ⌜ r ≡ unpartnered p side set j ⌝ }
 {
-    has(set, j) && partner(p, side, j) == 0
+    has(set, j) && p.partner(side, j) == 0
 }
 
 // An edge of this kind has the case, where the other side's state has the register set `others`.
@@ -46,11 +43,10 @@ pub fn has_case(p: Position, side: Side, kind: EdgeKind, others: u8, case: IdCas
     ensures { λ r. ⌜ r ≡ hasCaseIn others p side kind case ⌝ }
 {
     match case {
-        IdCase::Held => !kinds::is_fresh(kind),
-        IdCase::Private(j) => kinds::is_locally_fresh(kind)
-            && unpartnered(p, other(side), others, j),
-        IdCase::Seen => kinds::is_locally_fresh(kind),
-        IdCase::New => kinds::is_fresh(kind),
+        IdCase::Held => !kind.is_fresh(),
+        IdCase::Private(j) => kind.is_locally_fresh() && unpartnered(p, side.other(), others, j),
+        IdCase::Seen => kind.is_locally_fresh(),
+        IdCase::New => kind.is_fresh(),
     }
 }
 

@@ -3,8 +3,7 @@ use fra::EdgeKind;
 use fra::Model;
 use fra::Position;
 use fra::Side;
-use game_registers::partners::has;
-use game_registers::partners::partner;
+use fra::has;
 ghost use mathlib.Core.Path.{_≡_};
 ghost use Rattle.fra.specs.Game.{rejoined, remaining};
 ghost use Rattle.fra.specs.declared.Side.the-variants.{Left};
@@ -62,12 +61,12 @@ pub fn joint(p: Position, left: EdgeKind, right: EdgeKind) -> bool
 {
     match left {
         EdgeKind::Known(i) => match right {
-            EdgeKind::Known(j) => partner(p, Side::Left, i) == j,
-            EdgeKind::LocallyFresh(_) => partner(p, Side::Left, i) == 0,
+            EdgeKind::Known(j) => p.partner(Side::Left, i) == j,
+            EdgeKind::LocallyFresh(_) => p.partner(Side::Left, i) == 0,
             EdgeKind::GloballyFresh(_) => false,
         },
         EdgeKind::LocallyFresh(_) => match right {
-            EdgeKind::Known(j) => partner(p, Side::Right, j) == 0,
+            EdgeKind::Known(j) => p.partner(Side::Right, j) == 0,
             EdgeKind::LocallyFresh(_) => true,
             EdgeKind::GloballyFresh(_) => true,
         },

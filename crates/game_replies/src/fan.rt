@@ -5,7 +5,6 @@ use fra::EdgeKind;
 use fra::Model;
 use fra::State;
 use game_moves::rounds::Target;
-use game_registers::kinds;
 ghost use Prim.Native.Nat.{_*_, _<_, min};
 ghost use mathlib.Core.Path.{_≡_};
 ghost use lib.ListN.{getD};
@@ -31,7 +30,7 @@ pub fn candidate_for(k: u8, e: Edge, set: u8) -> Candidate
 {
     let kind = e.kind;
     let target = Target {
-        register: kinds::register_of(kind),
+        register: kind.register(),
         state: e.to,
         set,
     };
@@ -61,7 +60,7 @@ pub fn put(out: &mut [u8; SIZE], n: usize, c: Candidate)
     let target = c.target;
     let at = WIDTH * n;
     out[at] = c.edge;
-    out[at + 1] = kinds::number_of(kind);
+    out[at + 1] = kind.number();
     out[at + 2] = target.register;
     out[at + 3] = target.state;
     out[at + 4] = target.set;

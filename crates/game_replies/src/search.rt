@@ -6,7 +6,6 @@ use fra::Position;
 use fra::Side;
 use game_moves::rounds;
 use game_moves::rounds::Target;
-use game_registers::kinds;
 ghost use mathlib.Core.Path.{_≡_};
 ghost use mathlib.Core.Bool.{cond};
 ghost use Rattle.fra.specs.Model.{isLocallyFresh, isFresh};
@@ -47,9 +46,9 @@ fn takes_unheld(kind: EdgeKind, new: bool) -> bool
     ensures { λ r. ⌜ r ≡ cond new (isFresh kind) (isLocallyFresh kind) ⌝ }
 {
     if new {
-        kinds::is_fresh(kind)
+        kind.is_fresh()
     } else {
-        kinds::is_locally_fresh(kind)
+        kind.is_locally_fresh()
     }
 }
 
@@ -60,12 +59,12 @@ fn answers(partner: u8, case: IdCase, kind: EdgeKind) -> bool
     match case {
         IdCase::Held => {
             if partner == 0 {
-                kinds::is_locally_fresh(kind)
+                kind.is_locally_fresh()
             } else {
-                kinds::is_known(partner, kind)
+                kind.is_known(partner)
             }
         }
-        IdCase::Private(j) => kinds::is_known(j, kind),
+        IdCase::Private(j) => kind.is_known(j),
         IdCase::Seen => takes_unheld(kind, false),
         IdCase::New => takes_unheld(kind, true),
     }

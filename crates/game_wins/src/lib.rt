@@ -11,7 +11,6 @@ use game_index::Range;
 use game_moves::cases;
 use game_moves::cases::CaseFound;
 use game_moves::rounds::Target;
-use game_registers::partners::other;
 use game_replies::fan;
 use game_replies::search;
 use game_replies::search::Answering;
@@ -167,7 +166,7 @@ fn edge_win(
 {
     let c = fan::candidate_at(own, e);
     let kind = c.kind;
-    let away = other(side);
+    let away = side.other();
     let q = state_of(p, away);
     let fan = game_index::fan_of(states, away, q, game_index::tag_of(states, side, e));
     let held = IdCase::Held;

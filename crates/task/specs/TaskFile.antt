@@ -7,7 +7,7 @@ use lib.ListN.{length, getD, take, drop, set, replicate}
 use lib.Dec.{ltb, leb, eqb}
 use Rattle.fra.specs.Lists.{any, below}
 use Rattle.fra.specs.Registers.{has, inside, with}
-use Rattle.fra.specs.Model.{noState, noEdge, setOf, edgeOf, edgeBytes}
+use Rattle.fra.specs.Model.{noState, noEdge, setOf, edgeOf, kindOf, edgeBytes}
 use Rattle.fra.specs.Position.{unmatched}
 use Rattle.fra.specs.Rules.{modelOf}
 use Rattle.fra.specs.declared.EdgeKind.{EdgeKind}
@@ -139,12 +139,6 @@ stateAt s due p body =
     ]
 
 -- ── "3, edge: from, tag, kind, register, to." ──
-
--- "By its kind an edge is known, locally fresh or globally fresh (0, 1, 2)."
-abbrev pub kindOf : ℕ → ℕ → EdgeKind
-kindOf zero i = Known i
-kindOf (suc zero) i = LocallyFresh i
-kindOf (suc (suc n)) i = GloballyFresh i
 
 unfoldable pub edgeOfBody : List ℕ → Edge
 edgeOfBody body =

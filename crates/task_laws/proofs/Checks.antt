@@ -8,10 +8,10 @@ use lib.Dec.{ltb, leb, eqb}
 use borrow.Author.Tests.{ltb-true, ltb-false, leb-true, leb-false, eqb-true, not-false}
 use Rattle.fra.specs.Lists.{any}
 use Rattle.fra.specs.Registers.{has}
-use Rattle.fra.specs.Model.{setOf}
+use Rattle.fra.specs.Model.{setOf, kindOf}
 use Rattle.fra.specs.declared.Model.{Model}
 use Rattle.fra.specs.declared.Task.{Task}
-use Rattle.task.specs.TaskFile.{maxRegisters, maxStates, tagCount, maxEdges, headerRefusal, stateRefusal, kindOf, edgeExists, keepsRule, rises, edgeRefusal, rising, pairRefusal}
+use Rattle.task.specs.TaskFile.{maxRegisters, maxStates, tagCount, maxEdges, headerRefusal, stateRefusal, edgeExists, keepsRule, rises, edgeRefusal, rising, pairRefusal}
 use Rattle.task_laws.proofs.Tests.{none-of-three, none-of-four, all-of-six}
 
 -- a check that refuses nothing: its test fails, and so does what comes after it

@@ -11,12 +11,12 @@ use lib.Seq.{getD-drop}
 use lib.Dec.{ltb, leb, eqb}
 use Rattle.fra.specs.Lists.{any, below}
 use Rattle.fra.specs.Registers.{has, inside, with}
-use Rattle.fra.specs.Model.{setOf}
+use Rattle.fra.specs.Model.{setOf, kindOf}
 use Rattle.fra.specs.Valid.{RegisterRule}
 use Rattle.fra.specs.Position.{rightPartner}
 use Rattle.fra.specs.declared.Model.{Model}
 use Rattle.fra.specs.declared.Task.{Task}
-use Rattle.task.specs.TaskFile.{maxRegisters, maxStates, tagCount, maxEdges, headerRefusal, stateRefusal, kindOf, edgeExists, keepsRule, rises, edgeRefusal, rising, pairRefusal}
+use Rattle.task.specs.TaskFile.{maxRegisters, maxStates, tagCount, maxEdges, headerRefusal, stateRefusal, edgeExists, keepsRule, rises, edgeRefusal, rising, pairRefusal}
 use borrow.Author.Tests.{ltb-true, ltb-false, lt-ltb, eq-eqb, leb-true, leb-false, eqb-true, eqb-false, not-true, not-false}
 use Rattle.task_laws.proofs.Tests.{some-of-three, some-of-four, not-all-of-six}
 use Rattle.task_laws.proofs.Sets.{has-below, has-above, inside-false}

@@ -9,14 +9,14 @@ use lib.Dec.{eqb}
 use borrow.Author.Tests.{eqb-true, eqb-false, ne-eqb}
 use Rattle.fra.specs.Lists.{below}
 use Rattle.fra.specs.Registers.{has, inside, with}
-use Rattle.fra.specs.Model.{noState, noEdge, setOf, markOf, edgeOf, edgeBytes, registerOf}
+use Rattle.fra.specs.Model.{noState, noEdge, setOf, markOf, edgeOf, edgeBytes, registerOf, kindOf}
 use Rattle.fra.specs.Valid.{RegisterRule, ValidState, ValidEdge, ValidModel}
 use Rattle.fra.specs.declared.EdgeKind.{EdgeKind}
 use Rattle.fra.specs.declared.EdgeKind.the-variants.{Known, LocallyFresh, GloballyFresh}
 use Rattle.fra.specs.declared.Edge.{Edge}
 use Rattle.fra.specs.declared.State.{State}
 use Rattle.fra.specs.declared.Model.{Model}
-use Rattle.task.specs.TaskFile.{maxRegisters, maxStates, maxEdges, headed, withState, kindOf, edgeOfBody, keepsRule, rises, withEdge}
+use Rattle.task.specs.TaskFile.{maxRegisters, maxStates, maxEdges, headed, withState, edgeOfBody, keepsRule, rises, withEdge}
 use Rattle.fra_laws.proofs.Tests.{and-left, and-right}
 use Rattle.task_laws.proofs.Sets.{has-below, inside-true}
 use Rattle.task_laws.proofs.Arrays.{getD-set}

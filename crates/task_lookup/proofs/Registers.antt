@@ -10,7 +10,7 @@ use borrow.Author.Tests.{ne-eqb, leb-true, leb-false, lt-leb}
 use Rattle.fra.specs.Lists.{all, count}
 use Rattle.fra.specs.Registers.{has, inside, with}
 use Rattle.fra_laws.proofs.Tests.{or-right}
-use Rattle.game_registers.proofs.Bits.{below-power}
+use Rattle.fra.proofs.RegisterSets.{below-power}
 
 -- ── The bits of a set ──
 

@@ -1,5 +1,5 @@
 // One register set inside another.
-use game_registers::partners::has;
+use fra::has;
 ghost use mathlib.Core.Path.{_≡_};
 ghost use mathlib.Core.Bool.{not, _||_};
 ghost use Rattle.fra.specs.Registers.{has, inside, with};

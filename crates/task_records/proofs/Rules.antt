@@ -10,24 +10,19 @@ use lib.Dec.{ltb, leb, eqb}
 use borrow.Author.Tests.{eq-eqb, ne-eqb, leb-false, le-leb, lt-leb}
 use Rattle.fra.specs.Lists.{any, below}
 use Rattle.fra.specs.Registers.{has, inside, with}
-use Rattle.fra.specs.Model.{setOf, edgeOf, edgeBytes}
+use Rattle.fra.specs.Model.{setOf, edgeOf, kindOf, edgeBytes}
 use Rattle.fra.specs.declared.Edge.{Edge}
 use Rattle.fra.specs.declared.EdgeKind.{EdgeKind}
 use Rattle.fra.specs.declared.Model.{Model}
 use Rattle.fra.specs.declared.Task.{Task}
-use Rattle.fra.specs.declared.EdgeKind.the-variants.{Known, GloballyFresh}
+use Rattle.fra.specs.declared.EdgeKind.the-variants.{Known}
 use Rattle.fra_laws.proofs.Tests.{passes-unless}
 use Rattle.fra_laws.proofs.Registers.{has-positive}
-use Rattle.task.specs.TaskFile.{kindOf, edgeOfBody, edgeExists, keepsRule, rises, edgeRefusal, rising, pairRefusal}
+use Rattle.task.specs.TaskFile.{edgeOfBody, edgeExists, keepsRule, rises, edgeRefusal, rising, pairRefusal}
 use Rattle.task_lookup.proofs.Registers.{add-nothing}
 use Rattle.task_records.specs.Ruled.{ruled}
 
 -- ── Edges ──
-
-pub kind-rest : (n i : ℕ) → (n ≡ 0 → ⊥) → (n ≡ 1 → ⊥) → kindOf n i ≡ GloballyFresh i
-kind-rest zero i p q = absurd (p refl)
-kind-rest (suc zero) i p q = absurd (q refl)
-kind-rest (suc (suc n)) i p q = refl
 
 module _ (r from to i : ℕ) where
   pub known-inside : has from i ≡ true → keepsRule r from to (Known i) ≡ inside r to (with from 0)

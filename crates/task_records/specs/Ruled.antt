@@ -3,9 +3,9 @@ use Prim.Native.Nat.{ℕ}
 use mathlib.Core.Bool.{Bool}
 use mathlib.Core.List.{List}
 use lib.ListN.{getD}
-use Rattle.fra.specs.Model.{setOf}
+use Rattle.fra.specs.Model.{setOf, kindOf}
 use Rattle.fra.specs.declared.Model.{Model}
-use Rattle.task.specs.TaskFile.{kindOf, keepsRule}
+use Rattle.task.specs.TaskFile.{keepsRule}
 
 abbrev pub ruled : Model → List ℕ → Bool
 ruled m body =

@@ -4,7 +4,7 @@ use fra::Edge;
 use fra::EdgeKind;
 use fra::Model;
 use fra::Side;
-use game_registers::partners::has;
+use fra::has;
 use task::Progress;
 use task::Stage;
 use task::Stepped;
@@ -14,25 +14,14 @@ use task_lookup::sets;
 ghost use Prim.Native.Nat.{_<_};
 ghost use mathlib.Core.Path.{_≡_};
 ghost use Rattle.fra.specs.Model.{edgeBytes};
-ghost use Rattle.task.specs.TaskFile.{maxEdges, kindOf, edgeOfBody, edgeExists, keepsRule, rises, edgeRefusal, withEdge, edgeAt, edge};
+ghost use Rattle.task.specs.TaskFile.{maxEdges, edgeOfBody, edgeExists, keepsRule, rises, edgeRefusal, withEdge, edgeAt, edge};
 ghost use Rattle.task_records.specs.Ruled.{ruled};
-
-// The edge kind that a number stands for, with its register.
-fn kind_of(number: u8, register: u8) -> EdgeKind
-    ensures { λ r. ⌜ r ≡ kindOf number register ⌝ }
-{
-    match number {
-        0 => EdgeKind::Known(register),
-        1 => EdgeKind::LocallyFresh(register),
-        _ => EdgeKind::GloballyFresh(register),
-    }
-}
 
 // The edge that a body stands for.
 fn of_body(body: &[u8]) -> Edge
     ensures { λ r. ⌜ r ≡ edgeOfBody (now (body .entry)) ⌝ }
 {
-    let kind = kind_of(bytes::at(body, 2), bytes::at(body, 3));
+    let kind = EdgeKind::of(bytes::at(body, 2), bytes::at(body, 3));
     Edge {
         from: bytes::at(body, 0),
         tag: bytes::at(body, 1),
@@ -87,7 +76,7 @@ fn ruled(m: Model, body: &[u8]) -> bool
 {
     let from = models::set_of(m, bytes::at(body, 0));
     let to = models::set_of(m, bytes::at(body, 4));
-    let kind = kind_of(bytes::at(body, 2), bytes::at(body, 3));
+    let kind = EdgeKind::of(bytes::at(body, 2), bytes::at(body, 3));
     keeps_rule(m.registers, from, to, kind)
 }
 

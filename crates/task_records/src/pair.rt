@@ -3,7 +3,7 @@ use crate::progress;
 use fra::Model;
 use fra::Side;
 use fra::Task;
-use game_registers::partners::has;
+use fra::has;
 use task::Progress;
 use task::Stage;
 use task::Stepped;

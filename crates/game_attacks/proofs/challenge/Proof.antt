@@ -9,8 +9,8 @@ model-of-requires c κs = search needs
 edge-of-requires : tie.Need-edge-of-requires
 edge-of-requires c κs = search needs
 
-register-of-requires : tie.Need-register-of-requires
-register-of-requires c κs = search needs
+register-requires : tie.Need-register-requires
+register-requires c κs = search needs
 
 set-of-requires : tie.Need-set-of-requires
 set-of-requires c κs = search needs
@@ -27,7 +27,7 @@ challenge-spec =
     (tie.spec
     model-of-requires
     edge-of-requires
-    register-of-requires
+    register-requires
     set-of-requires
     partner-requires
     returns)

@@ -3,11 +3,11 @@ use borrow.Author.Needs.{needs}
 use Rattle.game_replies.proofs.fan.candidate_for.Statement.{statement}
 use Rattle.game_replies.proofs.fan.candidate_for.Tie as tie
 
-register-of-requires : tie.Need-register-of-requires
-register-of-requires c κs = search needs
+register-requires : tie.Need-register-requires
+register-requires c κs = search needs
 
 returns : tie.Need-returns
-returns c = rw (c .register-of .ensures)
+returns c = rw (c .register .ensures)
 
 pub candidate-for-spec : {M : Type 1} → statement M
-candidate-for-spec = tie.close (tie.spec register-of-requires returns)
+candidate-for-spec = tie.close (tie.spec register-requires returns)

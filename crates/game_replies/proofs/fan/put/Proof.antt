@@ -10,8 +10,8 @@ mul-at c = search needs
 element-write-out : tie.Need-element-write-out
 element-write-out c = search needs
 
-number-of-requires : tie.Need-number-of-requires
-number-of-requires c κs = search needs
+number-requires : tie.Need-number-requires
+number-requires c κs = search needs
 
 add-out : tie.Need-add-out
 add-out c = search needs
@@ -38,7 +38,7 @@ element-write-out-5 : tie.Need-element-write-out-5
 element-write-out-5 c = search needs
 
 returns : tie.Need-returns
-returns c = let a = c .before .before .args in rw (c .number-of .ensures) (set-five (a .out .now) _ _ _ _ _ _)
+returns c = let a = c .before .before .args in rw (c .number .ensures) (set-five (a .out .now) _ _ _ _ _ _)
 
 pub put-spec : {M : Type 1} → statement M
 put-spec =
@@ -46,7 +46,7 @@ put-spec =
     (tie.spec
     mul-at
     element-write-out
-    number-of-requires
+    number-requires
     add-out
     element-write-out-2
     add-out-2

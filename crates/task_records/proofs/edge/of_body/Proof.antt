@@ -12,7 +12,7 @@ returns c =
     (kind .before .before .at .ensures)
     (kind .before .at2 .ensures)
     (c .at5 .ensures)
-    (kind .kind-of .ensures)
+    (kind .of .ensures)
 
 pub of-body-spec : {M : Type 1} → statement M
 of-body-spec =

@@ -17,7 +17,7 @@ returns c =
     (sets .before .at2 .ensures)
     (sets .before .before .set-of .ensures)
     (sets .set-of2 .ensures)
-    (kind .kind-of .ensures)
+    (kind .of .ensures)
 
 pub ruled-spec : {M : Type 1} → statement M
 ruled-spec =

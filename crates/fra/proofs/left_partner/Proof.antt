@@ -1,14 +1,14 @@
--- `game_registers::partners::left_partner` meets its contract. The loop's invariant: the partner is found from place `i` on. The
+-- `fra::left_partner` meets its contract. The loop's invariant: the partner is found from place `i` on. The
 -- measure is how many places are left. Assumes nothing.
 use Prim.Native.Nat.{_+_, _-_, _≤_}
 use mathlib.Core.Path.{_≡_, refl, sym, _∙_}
 use native.Mathlib.Omega.{arith}
 use lib.ListN.{length, drop}
 use borrow.Author.Needs.{needs}
 use Rattle.fra.specs.Position.{leftPartner}
-use Rattle.game_registers.proofs.Places.{left-partner-here, left-partner-later, left-partner-none}
-use Rattle.game_registers.proofs.partners.left_partner.Statement.{statement}
-use Rattle.game_registers.proofs.partners.left_partner.Tie as tie
+use Rattle.fra.proofs.Partners.{left-partner-here, left-partner-later, left-partner-none}
+use Rattle.fra.proofs.left_partner.Statement.{statement}
+use Rattle.fra.proofs.left_partner.Tie as tie
 
 abbrev Inv-loop : tie.InvT-loop
 Inv-loop j partners i₀ i =

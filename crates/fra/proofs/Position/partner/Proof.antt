@@ -1,8 +1,8 @@
--- `game_registers::partners::partner` meets its contract, side by side. Assumes nothing.
+-- `fra::Position::partner` meets its contract, side by side. Assumes nothing.
 use borrow.Author.Needs.{needs}
 use Rattle.fra.specs.Position.{partner}
-use Rattle.game_registers.proofs.partners.partner.Statement.{statement}
-use Rattle.game_registers.proofs.partners.partner.Tie as tie
+use Rattle.fra.proofs.Position.partner.Statement.{statement}
+use Rattle.fra.proofs.Position.partner.Tie as tie
 
 enum-told : tie.Need-enum-told
 enum-told c = search needs

@@ -1,11 +1,11 @@
--- `game_registers::partners::has` meets its contract: a set of one byte has no register past the eighth. Assumes nothing.
+-- `fra::has` meets its contract: a set of one byte has no register past the eighth. Assumes nothing.
 use mathlib.Core.Path.{sym}
 use native.Mathlib.Omega.{arith}
 use borrow.Author.Needs.{needs}
 use Rattle.fra.specs.Registers.{has}
-use Rattle.game_registers.proofs.Bits.{has-none, has-bit}
-use Rattle.game_registers.proofs.partners.has.Statement.{statement}
-use Rattle.game_registers.proofs.partners.has.Tie as tie
+use Rattle.fra.proofs.RegisterSets.{has-none, has-bit}
+use Rattle.fra.proofs.has.Statement.{statement}
+use Rattle.fra.proofs.has.Tie as tie
 
 returns : tie.Need-returns
 unfolding has

@@ -1,12 +1,12 @@
--- `game_registers::partners::right_partner` meets its contract: past the last left register there is no partner. Assumes nothing.
+-- `fra::right_partner` meets its contract: past the last left register there is no partner. Assumes nothing.
 use mathlib.Core.Path.{_≡_, sym}
 use native.Mathlib.Omega.{arith}
 use lib.ListN.{length}
 use borrow.Author.Needs.{needs}
 use Rattle.fra.specs.Position.{rightPartner}
-use Rattle.game_registers.proofs.Places.{right-partner-at, right-partner-past}
-use Rattle.game_registers.proofs.partners.right_partner.Statement.{statement}
-use Rattle.game_registers.proofs.partners.right_partner.Tie as tie
+use Rattle.fra.proofs.Partners.{right-partner-at, right-partner-past}
+use Rattle.fra.proofs.right_partner.Statement.{statement}
+use Rattle.fra.proofs.right_partner.Tie as tie
 
 returns : tie.Need-returns
 unfolding rightPartner

@@ -1,3 +1,3 @@
 -- Lemmas that the proofs of the functions share, and laws for callers.
-pub mod Bits
-pub mod Places
+pub mod RegisterSets
+pub mod Partners

@@ -24,15 +24,15 @@ use Rattle.fra_laws.proofs.Lists.{all-same, all-map}
 use Rattle.game_moves.proofs.Lists.{keep-map}
 use Rattle.game_moves.proofs.IdCases.{all-cases}
 use Rattle.game_moves.proofs.Attacks.{edgeAttacks, attacking, sideAttacks, attacks-by-side}
-use Rattle.game_replies.specs.Fan.{candidateOf, candidateAt}
-use Rattle.game_replies.specs.Search.{challengeOf, isAnswer, afterReply, replyAnswer, replyFrom}
-use Rattle.game_replies.specs.declared.fan.Candidate.{Candidate}
-use Rattle.game_replies.specs.declared.search.Challenge.{Challenge}
-use Rattle.game_replies.specs.declared.search.Reply.{Reply}
-use Rattle.game_replies.specs.declared.search.Reply.the-variants.{To, Missing}
-use Rattle.game_replies.specs.declared.search.Found.{Found}
-use Rattle.game_replies.proofs.Fans.{Holds}
-use Rattle.game_replies.proofs.Replies.{answersFrom, replier, attackFan, all-replies, after-is}
+use Rattle.old_replies.specs.Fan.{candidateOf, candidateAt}
+use Rattle.old_replies.specs.Search.{challengeOf, isAnswer, afterReply, replyAnswer, replyFrom}
+use Rattle.old_replies.specs.declared.fan.Candidate.{Candidate}
+use Rattle.old_replies.specs.declared.search.Challenge.{Challenge}
+use Rattle.old_replies.specs.declared.search.Reply.{Reply}
+use Rattle.old_replies.specs.declared.search.Reply.the-variants.{To, Missing}
+use Rattle.old_replies.specs.declared.search.Found.{Found}
+use Rattle.old_replies.proofs.Fans.{Holds}
+use Rattle.old_replies.proofs.Replies.{answersFrom, replier, attackFan, all-replies, after-is}
 use Rattle.outcome.specs.Check.{holds}
 use Rattle.checker_laws.specs.Tries.{leadsFrom, listedIn, answeredIn, casesAnsweredIn, answered, edgeAnswered, sideAnswered}
 use Rattle.checker_laws.proofs.Lists.{keep-none, keep-some, by-places, all-append, any-map, all-flatMap-keep}

@@ -16,9 +16,9 @@ use Rattle.outcome.specs.Certificate.{Loss}
 use Rattle.outcome.specs.Check.{same}
 use Rattle.game_moves.proofs.IdCases.{casesFrom}
 use Rattle.game_moves.proofs.Attacks.{edgeAttacks, attacking}
-use Rattle.game_replies.specs.Fan.{candidateAt}
-use Rattle.game_replies.specs.Search.{inCase, isAnswer, afterReply}
-use Rattle.game_replies.specs.declared.search.Challenge.{Challenge}
+use Rattle.old_replies.specs.Fan.{candidateAt}
+use Rattle.old_replies.specs.Search.{inCase, isAnswer, afterReply}
+use Rattle.old_replies.specs.declared.search.Challenge.{Challenge}
 
 -- what the replies to a challenge lead to, from place i of a fan of n candidates on
 unfoldable pub leadsFrom : List ℕ → ℕ → ℕ → Challenge → List Position

@@ -2,8 +2,8 @@
 use comparer_leads::attack_of;
 use fra::IdCase;
 use fra::Side;
-use game_replies::fan;
 use game_wins::Win;
+use old_replies::fan;
 use outcome::Verdict;
 use outcome::layout::KEPT_KIND;
 use outcome::layout::KEPT_WIDTH;
@@ -23,7 +23,7 @@ ghost use Rattle.fra.specs.Rules.{bisimulation};
 ghost use Rattle.outcome.specs.Certificate.{sideNumber, caseNumber, keptRecord};
 ghost use Rattle.outcome.specs.declared.Verdict.the-variants.{Differ};
 ghost use Rattle.table_laws.specs.Table.{positionAt};
-ghost use Rattle.game_index.specs.Index.{ForTask};
+ghost use Rattle.old_index.specs.Index.{ForTask};
 ghost use Rattle.game_wins.specs.Judgement.{Searchable};
 ghost use Rattle.comparer_certify_laws.specs.Records.{recordSize, recordAt};
 ghost use Rattle.comparer_certify.specs.Fields.{attackBytes};
@@ -86,7 +86,7 @@ fn put_loss(
     n: usize,
     left: &[u8; fan::SIZE],
     right: &[u8; fan::SIZE],
-    states: &[u8; game_index::STATES],
+    states: &[u8; old_index::STATES],
     i: usize,
     buffer: &mut [u8],
     at: usize,
@@ -108,7 +108,7 @@ pub fn put_record(
     n: usize,
     left: &[u8; fan::SIZE],
     right: &[u8; fan::SIZE],
-    states: &[u8; game_index::STATES],
+    states: &[u8; old_index::STATES],
     verdict: Verdict,
     i: usize,
     buffer: &mut [u8],

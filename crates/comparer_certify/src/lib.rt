@@ -26,9 +26,9 @@ pub fn certify(t: Task, table: &mut [u8], n: usize, buffer: &mut [u8]) -> Certif
     requires { ⌜ Ranked t n (now table) ⌝ }
     ensures { λ r. ⌜ Certifies (certificateOf t) (now (table .entry)) (now (buffer .entry)) r (now (table .exit)) (now (buffer .exit)) ⌝ }
 {
-    let left = game_index::edges(t.left);
-    let right = game_index::edges(t.right);
-    let states = game_index::states(t);
+    let left = old_index::edges(t.left);
+    let right = old_index::edges(t.right);
+    let states = old_index::states(t);
     let start = t.start;
     let rounds = rounds_of(table, n, start);
     if rounds == NEVER {

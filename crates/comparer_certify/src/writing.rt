@@ -6,7 +6,7 @@ use crate::fields::width;
 use comparer_marks::count_listed;
 use comparer_marks::is_listed;
 use fra::Task;
-use game_replies::fan;
+use old_replies::fan;
 use outcome::Verdict;
 use table::ENTRY;
 use table::ROUNDS;
@@ -16,7 +16,7 @@ ghost use mathlib.Core.Path.{_≡_};
 ghost use lib.ListN.{length};
 ghost use lib.Seq.{sets};
 ghost use Rattle.fra.specs.Rules.{bisimulation};
-ghost use Rattle.game_index.specs.Index.{Indexed};
+ghost use Rattle.old_index.specs.Index.{Indexed};
 ghost use Rattle.game_wins.specs.Judgement.{Searchable};
 ghost use Rattle.comparer_certify_laws.specs.Records.{recordsOf};
 ghost use Rattle.comparer_certify.specs.Outcome.{Certifies};
@@ -28,7 +28,7 @@ fn put_records(
     t: Task,
     left: &[u8; fan::SIZE],
     right: &[u8; fan::SIZE],
-    states: &[u8; game_index::STATES],
+    states: &[u8; old_index::STATES],
     verdict: Verdict,
     buffer: &mut [u8],
 )
@@ -55,7 +55,7 @@ pub fn write(
     t: Task,
     left: &[u8; fan::SIZE],
     right: &[u8; fan::SIZE],
-    states: &[u8; game_index::STATES],
+    states: &[u8; old_index::STATES],
     verdict: Verdict,
     buffer: &mut [u8],
 ) -> Certified

@@ -25,7 +25,7 @@ use Rattle.outcome.specs.declared.Verdict.{Verdict}
 use Rattle.outcome.specs.declared.Verdict.the-variants.{Equal, Differ}
 use Rattle.outcome_laws.proofs.Written.{loss-position}
 use Rattle.table_laws.specs.Table.{positionAt}
-use Rattle.game_replies.proofs.Lists.{keep-count-passes, keep-count-fails, flatMap-append}
+use Rattle.old_replies.proofs.Lists.{keep-count-passes, keep-count-fails, flatMap-append}
 use Rattle.comparer_rank_laws.specs.Rows.{roundsAt}
 use Rattle.comparer_certify_laws.specs.Records.{isListed, recordSize, listedPlaces, recordAt, recordsOf}
 

@@ -5,11 +5,11 @@ use crate::set::Inserted;
 use fra::Model;
 use fra::Position;
 use fra::Side;
-use game_index::Range;
 use game_moves::rounds;
 use game_moves::rounds::Target;
-use game_replies::fan;
-use game_replies::fan::Candidate;
+use old_index::Range;
+use old_replies::fan;
+use old_replies::fan::Candidate;
 ghost use Prim.Native.Nat.{_<_};
 ghost use mathlib.Core.Path.{_≡_};
 ghost use mathlib.Core.Bool.{true};
@@ -17,8 +17,8 @@ ghost use Rattle.fra.specs.Rules.{bisimulation};
 ghost use Rattle.fra.specs.Position.{legal};
 ghost use Rattle.fra.specs.declared.Task.{Task};
 ghost use Rattle.game_moves.specs.Rounds.{movedTo};
-ghost use Rattle.game_replies.specs.Fan.{candidateAt};
-ghost use Rattle.game_index.specs.Index.{Indexed};
+ghost use Rattle.old_replies.specs.Fan.{candidateAt};
+ghost use Rattle.old_index.specs.Index.{Indexed};
 ghost use Rattle.table_laws.specs.Keys.{keyOf};
 ghost use Rattle.comparer_explore_laws.specs.Stored.{keyLimit, Stored};
 ghost use Rattle.comparer_explore_laws.specs.Growth.{Among};
@@ -106,19 +106,19 @@ pub fn visit_successors(
     n: usize,
     left: &[u8; fan::SIZE],
     right: &[u8; fan::SIZE],
-    states: &[u8; game_index::STATES],
+    states: &[u8; old_index::STATES],
     p: Position,
 ) -> Explored
     requires { ⌜ Stored n (now table) ⌝ }
     ensures { λ r. ⌜ ((t : Task) → Indexed t (now (left .entry)) (now (right .entry)) (now (states .entry)) → legal 6 t p ≡ true → Visited (SuccessorKey bisimulation t p) n (now (table .entry)) r (now (table .exit))) ⌝ }
 {
-    let edges = game_index::edges_of(states, Side::Left, p.left);
+    let edges = old_index::edges_of(states, Side::Left, p.left);
     let end = edges.end;
     let mut m = n;
     let mut k = edges.first;
     while k < end {
-        let tag = game_index::tag_of(states, Side::Left, k);
-        let fan = game_index::fan_of(states, Side::Right, p.right, tag);
+        let tag = old_index::tag_of(states, Side::Left, k);
+        let fan = old_index::fan_of(states, Side::Right, p.right, tag);
         let Explored::Count(more) = visit_fan(table, m, p, fan::candidate_at(left, k), right, fan)
         else {
             return Explored::TooMany;

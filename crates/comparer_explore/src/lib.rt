@@ -21,9 +21,9 @@ fn expand_all(table: &mut [u8], n: usize, t: Task) -> Explored
     requires { ⌜ Explorable t × Exploring bisimulation t (length (now table)) n 0 (now table) ⌝ }
     ensures { λ r. ⌜ Explores t (now (table .entry)) r (now (table .exit)) ⌝ }
 {
-    let left = game_index::edges(t.left);
-    let right = game_index::edges(t.right);
-    let states = game_index::states(t);
+    let left = old_index::edges(t.left);
+    let right = old_index::edges(t.right);
+    let states = old_index::states(t);
     let mut found = n;
     let mut done: usize = 0;
     while done < found {

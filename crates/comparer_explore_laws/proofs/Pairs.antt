@@ -16,12 +16,12 @@ use Rattle.fra.specs.declared.Task.{Task}
 use Rattle.fra.specs.declared.Side.{Side}
 use Rattle.fra.specs.declared.Side.the-variants.{Left}
 use Rattle.fra_laws.proofs.Lists.{keep-intro, count-intro, count-elim}
-use Rattle.game_replies.specs.Fan.{fanOf, candidateOf, candidateAt}
-use Rattle.game_replies.proofs.Pairs.{fan-elim, successors-by-fans}
-use Rattle.game_index.specs.Index.{fromOf, tagOf, edgesOf, within, Indexed}
-use Rattle.game_index.specs.declared.Range.{Range}
-use Rattle.game_index.proofs.Tables.{edge-read}
-use Rattle.game_index.proofs.Fans.{starting}
+use Rattle.old_replies.specs.Fan.{fanOf, candidateOf, candidateAt}
+use Rattle.old_replies.proofs.Pairs.{fan-elim, successors-by-fans}
+use Rattle.old_index.specs.Index.{fromOf, tagOf, edgesOf, within, Indexed}
+use Rattle.old_index.specs.declared.Range.{Range}
+use Rattle.old_index.proofs.Tables.{edge-read}
+use Rattle.old_index.proofs.Fans.{starting}
 use Rattle.table_laws.specs.Keys.{keyOf}
 use Rattle.comparer_explore_laws.specs.Growth.{Among}
 use Rattle.comparer_explore_laws.specs.Pairs.{PairKey, EdgeKey}

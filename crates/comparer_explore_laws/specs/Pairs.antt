@@ -8,9 +8,9 @@ use Rattle.fra.specs.declared.Task.{Task}
 use Rattle.fra.specs.declared.Side.the-variants.{Left}
 use Rattle.fra_laws.proofs.Successors.{compatible}
 use Rattle.game_moves.specs.Rounds.{movedTo}
-use Rattle.game_replies.specs.Fan.{fanOf, candidateOf}
-use Rattle.game_replies.specs.declared.fan.Candidate.{Candidate}
-use Rattle.game_index.specs.Index.{tagOf}
+use Rattle.old_replies.specs.Fan.{fanOf, candidateOf}
+use Rattle.old_replies.specs.declared.fan.Candidate.{Candidate}
+use Rattle.old_index.specs.Index.{tagOf}
 use Rattle.table_laws.specs.Keys.{keyOf}
 
 -- the edges can take one number in a round, and k is the key of the position after it

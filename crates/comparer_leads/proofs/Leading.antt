@@ -9,11 +9,11 @@ use Rattle.fra.specs.declared.Task.{Task}
 use Rattle.fra.specs.declared.Attack.{Attack}
 use Rattle.game_moves.proofs.Lists.{keep-map}
 use Rattle.outcome.specs.Certificate.{attackLeads}
-use Rattle.game_replies.specs.Fan.{candidateOf}
-use Rattle.game_replies.specs.Search.{challengeOf, isAnswer, afterReply}
-use Rattle.game_replies.specs.declared.fan.Candidate.{Candidate}
-use Rattle.game_replies.specs.declared.search.Challenge.{Challenge}
-use Rattle.game_replies.proofs.Replies.{answersFrom, replier, attackFan, all-replies, after-is}
+use Rattle.old_replies.specs.Fan.{candidateOf}
+use Rattle.old_replies.specs.Search.{challengeOf, isAnswer, afterReply}
+use Rattle.old_replies.specs.declared.fan.Candidate.{Candidate}
+use Rattle.old_replies.specs.declared.search.Challenge.{Challenge}
+use Rattle.old_replies.proofs.Replies.{answersFrom, replier, attackFan, all-replies, after-is}
 use Rattle.game_wins.specs.Wins.{answering}
 
 -- those that answer, each with the position it leads to

@@ -8,11 +8,11 @@ use fra::Position;
 use fra::Side;
 use fra::Task;
 use game_attacks::state_of;
-use game_replies::fan;
-use game_replies::search::Reply;
-use game_replies::search::next_reply;
 use game_wins::Win;
 use game_wins::first_win;
+use old_replies::fan;
+use old_replies::search::Reply;
+use old_replies::search::next_reply;
 use table::ENTRY;
 use table::ROUNDS;
 use table::position_at;
@@ -23,7 +23,7 @@ ghost use mathlib.Core.Option.{some};
 ghost use Rattle.fra.specs.Rules.{bisimulation, leftOf, rightOf, modelOf};
 ghost use Rattle.fra.specs.declared.Task.{Task};
 ghost use Rattle.outcome.specs.Certificate.{attackLeads};
-ghost use Rattle.game_index.specs.Index.{Indexed, ForTask};
+ghost use Rattle.old_index.specs.Index.{Indexed, ForTask};
 ghost use Rattle.game_wins.specs.Judgement.{Searchable};
 ghost use Rattle.game_wins.specs.Wins.{winOf};
 ghost use Rattle.comparer_certify_laws.specs.Marking.{markedAll, attackBy, ledFrom, passed, marking, prepared};
@@ -34,7 +34,7 @@ pub fn attack_of(
     n: usize,
     left: &[u8; fan::SIZE],
     right: &[u8; fan::SIZE],
-    states: &[u8; game_index::STATES],
+    states: &[u8; old_index::STATES],
     p: Position,
     k: u32,
 ) -> Win
@@ -55,7 +55,7 @@ fn mark_replies(
     n: usize,
     own: &[u8; fan::SIZE],
     others: &[u8; fan::SIZE],
-    states: &[u8; game_index::STATES],
+    states: &[u8; old_index::STATES],
     p: Position,
     a: Attack,
 )
@@ -65,10 +65,10 @@ fn mark_replies(
     let side = a.side;
     let case = a.case;
     let edge = a.edge as usize;
-    let challenge = game_index::challenge(fan::candidate_at(own, edge), p, side, case);
+    let challenge = old_index::challenge(fan::candidate_at(own, edge), p, side, case);
     let away = side.other();
-    let tag = game_index::tag_of(states, side, edge);
-    let fan = game_index::fan_of(states, away, state_of(p, away), tag);
+    let tag = old_index::tag_of(states, side, edge);
+    let fan = old_index::fan_of(states, away, state_of(p, away), tag);
     let end = fan.end;
     let mut at = fan.first;
     loop {
@@ -88,7 +88,7 @@ fn mark_leads(
     n: usize,
     left: &[u8; fan::SIZE],
     right: &[u8; fan::SIZE],
-    states: &[u8; game_index::STATES],
+    states: &[u8; old_index::STATES],
     p: Position,
     a: Attack,
 )
@@ -108,7 +108,7 @@ fn lead(
     n: usize,
     left: &[u8; fan::SIZE],
     right: &[u8; fan::SIZE],
-    states: &[u8; game_index::STATES],
+    states: &[u8; old_index::STATES],
     k: u32,
     i: usize,
 )
@@ -131,7 +131,7 @@ fn pass(
     t: Task,
     left: &[u8; fan::SIZE],
     right: &[u8; fan::SIZE],
-    states: &[u8; game_index::STATES],
+    states: &[u8; old_index::STATES],
     k: u32,
 )
     requires { ⌜ Searchable n (now table) ⌝ }
@@ -155,7 +155,7 @@ fn mark_down(
     t: Task,
     left: &[u8; fan::SIZE],
     right: &[u8; fan::SIZE],
-    states: &[u8; game_index::STATES],
+    states: &[u8; old_index::STATES],
     rounds: u32,
 )
     requires { ⌜ Searchable n (now table) ⌝ }
@@ -178,7 +178,7 @@ pub fn prepare(
     t: Task,
     left: &[u8; fan::SIZE],
     right: &[u8; fan::SIZE],
-    states: &[u8; game_index::STATES],
+    states: &[u8; old_index::STATES],
     rounds: u32,
 )
     requires { ⌜ Searchable n (now table) ⌝ }

@@ -4,10 +4,10 @@
 // leads is looked up only if positions with its states are lost (`losing`). The task is read by its index: left edges, right
 // edges, states.
 use fra::Task;
-use game_index::lost_at_once;
-use game_replies::fan;
 use game_wins::Win;
 use game_wins::first_win;
+use old_index::lost_at_once;
+use old_replies::fan;
 use table::ENTRY;
 use table::NEVER;
 use table::ROUNDS;
@@ -25,7 +25,7 @@ ghost use Rattle.fra.specs.Reach.{reached};
 ghost use Rattle.fra.specs.Valid.{Valid};
 ghost use Rattle.outcome.specs.Bytes.{allOnes};
 ghost use Rattle.outcome.specs.Certificate.{entries};
-ghost use Rattle.game_index.specs.Index.{StatesIndexed, Indexed, ForStates, ForTask};
+ghost use Rattle.old_index.specs.Index.{StatesIndexed, Indexed, ForStates, ForTask};
 ghost use Rattle.table_laws.specs.Table.{positionAt};
 ghost use Rattle.comparer_rank_laws.specs.Levels.{level, ranked};
 ghost use Rattle.comparer_rank_laws.specs.Rows.{rows};
@@ -33,7 +33,7 @@ ghost use Rattle.game_wins.specs.Judgement.{Searchable};
 ghost use Rattle.comparer_rank.specs.Passes.{Begins, Ready, gains, markedIf};
 
 // Pass 0 at entry i.
-fn mark_at_once(table: &mut [u8], states: &[u8; game_index::STATES], i: usize)
+fn mark_at_once(table: &mut [u8], states: &[u8; old_index::STATES], i: usize)
     requires { ⌜ i * 12 + 12 ≤ length (now table) ⌝ }
     ensures { λ _. ⌜ ForStates (now (states .entry)) (now (table .exit)) (λ t. markedIf (lostAtOnce bisimulation t (positionAt (now (table .entry)) i)) (now (table .entry)) i 0) ⌝ }
 {
@@ -43,7 +43,7 @@ fn mark_at_once(table: &mut [u8], states: &[u8; game_index::STATES], i: usize)
 }
 
 // Pass 0: rounds 0 where the end marks differ.
-fn pass_zero(table: &mut [u8], n: usize, states: &[u8; game_index::STATES])
+fn pass_zero(table: &mut [u8], n: usize, states: &[u8; old_index::STATES])
     requires { ⌜ n * 12 ≤ length (now table) ⌝ }
     ensures { λ _. ⌜ ((t : Task) → StatesIndexed t (now (states .entry)) → Begins t (λ p. allOnes) n (now (table .entry)) → now (table .exit) ≡ rows (level bisimulation t 0) (reached bisimulation t) ++ drop (n * 12) (now (table .entry))) ⌝ }
 {
@@ -61,7 +61,7 @@ fn mark(
     losing: &[u8; comparer_state_pairs::SIZE],
     left: &[u8; fan::SIZE],
     right: &[u8; fan::SIZE],
-    states: &[u8; game_index::STATES],
+    states: &[u8; old_index::STATES],
     k: u32,
     worth: &[u8; comparer_state_pairs::SIZE],
     i: usize,
@@ -93,7 +93,7 @@ fn pass(
     losing: &[u8; comparer_state_pairs::SIZE],
     left: &[u8; fan::SIZE],
     right: &[u8; fan::SIZE],
-    states: &[u8; game_index::STATES],
+    states: &[u8; old_index::STATES],
     k: u32,
     worth: &[u8; comparer_state_pairs::SIZE],
 ) -> bool
@@ -117,9 +117,9 @@ pub fn rank(table: &mut [u8], n: usize, t: Task)
     requires { ⌜ Valid 6 t ⌝ }
     ensures { λ _. ⌜ now (table .exit) ≡ entries bisimulation t ++ drop (n * 12) (now (table .entry)) ⌝ }
 {
-    let left = game_index::edges(t.left);
-    let right = game_index::edges(t.right);
-    let states = game_index::states(t);
+    let left = old_index::edges(t.left);
+    let right = old_index::edges(t.right);
+    let states = old_index::states(t);
     pass_zero(table, n, &states);
     let mut losing = comparer_state_pairs::lost_pairs(table, n, 0, 1);
     // An attack without a reply wins in pass 1 whatever pass 0 has marked.

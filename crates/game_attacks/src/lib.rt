@@ -7,8 +7,8 @@ use fra::Side;
 use fra::Task;
 use game_moves::cases::has_case;
 use game_moves::rounds::Target;
-use game_replies::fan;
-use game_replies::search::Challenge;
+use old_replies::fan;
+use old_replies::search::Challenge;
 use task_lookup::models::edge_of;
 use task_lookup::models::model_of;
 use task_lookup::models::set_of;
@@ -17,9 +17,9 @@ ghost use Rattle.fra.specs.Model.{markOf};
 ghost use Rattle.fra.specs.Rules.{bisimulation};
 ghost use Rattle.fra.specs.Position.{stateOf};
 ghost use Rattle.fra.specs.Game.{isAttack, lostAtOnce};
-ghost use Rattle.game_replies.specs.Search.{challengeOf, inCase};
-ghost use Rattle.game_replies.specs.Fan.{Collected};
-ghost use Rattle.game_replies.proofs.Replies.{replier, attackFan};
+ghost use Rattle.old_replies.specs.Search.{challengeOf, inCase};
+ghost use Rattle.old_replies.specs.Fan.{Collected};
+ghost use Rattle.old_replies.proofs.Replies.{replier, attackFan};
 
 pub fn state_of(p: Position, side: Side) -> u8
     ensures { λ r. ⌜ r ≡ stateOf p side ⌝ }

@@ -18,15 +18,15 @@ use Rattle.fra.specs.declared.Attack.{Attack}
 use Rattle.fra_laws.proofs.Lists.{all-same, all-map}
 use Rattle.game_moves.proofs.Lists.{keep-map}
 use Rattle.game_moves.proofs.Searches.{least-same, test, KeptFrom, kept-from}
-use Rattle.game_replies.specs.Fan.{candidateFor, candidateOf, candidateAt}
-use Rattle.game_replies.specs.Search.{challengeOf, isAnswer, afterReply, answerAt, answerFrom, replyAnswer, replyFrom}
-use Rattle.game_replies.specs.declared.fan.Candidate.{Candidate}
-use Rattle.game_replies.specs.declared.search.Challenge.{Challenge}
-use Rattle.game_replies.specs.declared.search.Answering.{Answering}
-use Rattle.game_replies.specs.declared.search.Answering.the-variants.{At, NoMore}
-use Rattle.game_replies.specs.declared.search.Reply.the-variants.{To, Missing}
-use Rattle.game_replies.specs.declared.search.Found.{Found}
-use Rattle.game_replies.proofs.Replies.{answersFrom, replier, attackFan, all-replies, after-is}
+use Rattle.old_replies.specs.Fan.{candidateFor, candidateOf, candidateAt}
+use Rattle.old_replies.specs.Search.{challengeOf, isAnswer, afterReply, answerAt, answerFrom, replyAnswer, replyFrom}
+use Rattle.old_replies.specs.declared.fan.Candidate.{Candidate}
+use Rattle.old_replies.specs.declared.search.Challenge.{Challenge}
+use Rattle.old_replies.specs.declared.search.Answering.{Answering}
+use Rattle.old_replies.specs.declared.search.Answering.the-variants.{At, NoMore}
+use Rattle.old_replies.specs.declared.search.Reply.the-variants.{To, Missing}
+use Rattle.old_replies.specs.declared.search.Found.{Found}
+use Rattle.old_replies.proofs.Replies.{answersFrom, replier, attackFan, all-replies, after-is}
 use Rattle.comparer_rank_laws.specs.Winner.{winsBy}
 use Rattle.table_laws.proofs.Tables.{places-length, places-at}
 use Rattle.game_wins.specs.Wins.{candidates, answering, settles}

@@ -28,13 +28,13 @@ use Rattle.fra_laws.proofs.Legal.{valid-side}
 use Rattle.game_moves.specs.Cases.{hasCaseIn}
 use Rattle.game_moves.proofs.IdCases.{casesFrom, NextCase, all-cases}
 use Rattle.game_moves.proofs.Attacks.{edgeAttacks, sideAttacks, attacks-by-side}
-use Rattle.game_replies.specs.Fan.{candidateOf}
-use Rattle.game_replies.specs.Search.{challengeOf, inCase, isAnswer, afterReply}
-use Rattle.game_replies.specs.declared.fan.Candidate.{Candidate}
-use Rattle.game_replies.specs.declared.search.Challenge.{Challenge}
-use Rattle.game_replies.proofs.Replies.{replier, attackFan}
-use Rattle.game_index.specs.declared.Range.{Range}
-use Rattle.game_index.specs.Index.{within, edgesOf}
+use Rattle.old_replies.specs.Fan.{candidateOf}
+use Rattle.old_replies.specs.Search.{challengeOf, inCase, isAnswer, afterReply}
+use Rattle.old_replies.specs.declared.fan.Candidate.{Candidate}
+use Rattle.old_replies.specs.declared.search.Challenge.{Challenge}
+use Rattle.old_replies.proofs.Replies.{replier, attackFan}
+use Rattle.old_index.specs.declared.Range.{Range}
+use Rattle.old_index.specs.Index.{within, edgesOf}
 use Rattle.comparer_rank_laws.specs.Winner.{winsBy, winner}
 use Rattle.comparer_rank_laws.proofs.Winners.{first-passes, first-fails, first-append}
 use Rattle.game_wins.specs.declared.Win.the-variants.{By, Nobody}

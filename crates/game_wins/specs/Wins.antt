@@ -13,10 +13,10 @@ use Rattle.fra.specs.declared.IdCase.{IdCase}
 use Rattle.fra.specs.declared.Attack.{Attack}
 use Rattle.game_moves.proofs.IdCases.{casesFrom}
 use Rattle.game_moves.proofs.Attacks.{edgeAttacks, sideAttacks}
-use Rattle.game_replies.specs.Fan.{candidateAt}
-use Rattle.game_replies.specs.Search.{isAnswer, inCase, afterReply}
-use Rattle.game_replies.specs.declared.fan.Candidate.{Candidate}
-use Rattle.game_replies.specs.declared.search.Challenge.{Challenge}
+use Rattle.old_replies.specs.Fan.{candidateAt}
+use Rattle.old_replies.specs.Search.{isAnswer, inCase, afterReply}
+use Rattle.old_replies.specs.declared.fan.Candidate.{Candidate}
+use Rattle.old_replies.specs.declared.search.Challenge.{Challenge}
 use Rattle.comparer_rank_laws.specs.Winner.{winsBy}
 use Rattle.game_wins.specs.declared.Win.{Win}
 use Rattle.game_wins.specs.declared.Win.the-variants.{By, Nobody}

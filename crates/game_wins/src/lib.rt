@@ -7,23 +7,23 @@ use fra::Position;
 use fra::Side;
 use game_attacks::in_case;
 use game_attacks::state_of;
-use game_index::Range;
 use game_moves::cases;
 use game_moves::cases::CaseFound;
 use game_moves::rounds::Target;
-use game_replies::fan;
-use game_replies::search;
-use game_replies::search::Answering;
-use game_replies::search::Challenge;
+use old_index::Range;
+use old_replies::fan;
+use old_replies::search;
+use old_replies::search::Answering;
+use old_replies::search::Challenge;
 use table::Place;
 ghost use Prim.Native.Nat.{_<_};
 ghost use mathlib.Core.Path.{_≡_};
 ghost use Rattle.fra.specs.Rules.{bisimulation, leftOf, rightOf, modelOf};
 ghost use Rattle.fra.specs.declared.Task.{Task};
-ghost use Rattle.game_index.specs.Index.{Indexed, ForTask};
+ghost use Rattle.old_index.specs.Index.{Indexed, ForTask};
 ghost use Rattle.comparer_rank_laws.specs.Winner.{winner};
 ghost use Rattle.comparer_rank_laws.specs.Pairs.{hasPair};
-ghost use Rattle.game_replies.specs.Search.{afterReply};
+ghost use Rattle.old_replies.specs.Search.{afterReply};
 ghost use Rattle.game_wins.specs.Judgement.{Searchable, lostBefore, lostAmong};
 ghost use Rattle.game_wins.specs.Wins.{winOf, winIn, candidates, settles, caseWinner, edgeWinner, sideWinner};
 
@@ -156,7 +156,7 @@ fn edge_win(
     k: u32,
     own: &[u8; fan::SIZE],
     others: &[u8; fan::SIZE],
-    states: &[u8; game_index::STATES],
+    states: &[u8; old_index::STATES],
     p: Position,
     side: Side,
     e: usize,
@@ -168,7 +168,7 @@ fn edge_win(
     let kind = c.kind;
     let away = side.other();
     let q = state_of(p, away);
-    let fan = game_index::fan_of(states, away, q, game_index::tag_of(states, side, e));
+    let fan = old_index::fan_of(states, away, q, old_index::tag_of(states, side, e));
     let held = IdCase::Held;
     case_win(
         table,
@@ -177,9 +177,9 @@ fn edge_win(
         k,
         others,
         fan,
-        game_index::challenge(c, p, side, held),
+        old_index::challenge(c, p, side, held),
         kind,
-        game_index::set_of(states, away, q),
+        old_index::set_of(states, away, q),
         c.edge,
     )
 }
@@ -192,14 +192,14 @@ fn side_win(
     k: u32,
     own: &[u8; fan::SIZE],
     others: &[u8; fan::SIZE],
-    states: &[u8; game_index::STATES],
+    states: &[u8; old_index::STATES],
     p: Position,
     side: Side,
 ) -> Win
     requires { ⌜ Searchable n (now table) ⌝ }
     ensures { λ r. ⌜ ForTask (leftOf side (now (own .entry)) (now (others .entry))) (rightOf side (now (own .entry)) (now (others .entry))) (now (states .entry)) r (λ t. winOf (sideWinner t (lostAmong (now (losing .entry)) (now (table .entry)) n k) p side)) ⌝ }
 {
-    let edges = game_index::edges_of(states, side, state_of(p, side));
+    let edges = old_index::edges_of(states, side, state_of(p, side));
     let end = edges.end;
     let mut e = edges.first;
     while e < end {
@@ -219,7 +219,7 @@ pub fn first_win(
     losing: &[u8; comparer_state_pairs::SIZE],
     left: &[u8; fan::SIZE],
     right: &[u8; fan::SIZE],
-    states: &[u8; game_index::STATES],
+    states: &[u8; old_index::STATES],
     p: Position,
     k: u32,
 ) -> Win

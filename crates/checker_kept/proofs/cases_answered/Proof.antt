@@ -10,8 +10,8 @@ use borrow.Author.Tests.{not-true, not-false}
 use Rattle.fra.specs.Lists.{all}
 use Rattle.fra.specs.declared.IdCase.{IdCase}
 use Rattle.game_moves.proofs.IdCases.{casesFrom, NextCase, case-found, no-case}
-use Rattle.game_replies.specs.Search.{inCase}
-use Rattle.game_replies.specs.declared.search.Challenge.{Challenge}
+use Rattle.old_replies.specs.Search.{inCase}
+use Rattle.old_replies.specs.declared.search.Challenge.{Challenge}
 use Rattle.checker_laws.specs.Records.{positions}
 use Rattle.checker_laws.specs.Tries.{listedIn, answeredIn}
 use borrow.Author.Needs.{needs}

@@ -4,7 +4,7 @@ use native.Mathlib.Omega.{arith}
 use lib.ListN.{length-replicate}
 use Rattle.fra.specs.Rules.{other}
 use Rattle.fra_laws.proofs.Legal.{valid-side}
-use Rattle.game_replies.proofs.Fans.{collected-holds}
+use Rattle.old_replies.proofs.Fans.{collected-holds}
 use Rattle.checker_laws.specs.Records.{positions}
 use Rattle.checker_laws.specs.Tries.{listedIn}
 use Rattle.checker_laws.proofs.Tries.{each-case}

@@ -6,7 +6,7 @@ use lib.ListN.{length-replicate}
 use borrow.Author.Tests.{not-true, not-false}
 use Rattle.fra.specs.Rules.{other}
 use Rattle.fra_laws.proofs.Legal.{valid-side}
-use Rattle.game_replies.proofs.Fans.{collected-holds}
+use Rattle.old_replies.proofs.Fans.{collected-holds}
 use Rattle.outcome.specs.Check.{forces}
 use Rattle.checker_laws.specs.Records.{losses}
 use Rattle.checker_laws.specs.Tries.{soonerIn}

@@ -10,7 +10,7 @@ use Rattle.fra.specs.Rules.{bisimulation}
 use Rattle.fra.specs.Reach.{reached}
 use Rattle.outcome.specs.declared.Verdict.the-variants.{Differ}
 use Rattle.fra_laws.proofs.Lengths.{length-of-map}
-use Rattle.game_index.specs.Index.{Indexed}
+use Rattle.old_index.specs.Index.{Indexed}
 use Rattle.game_wins.specs.Judgement.{Searchable}
 use Rattle.comparer_certify_laws.specs.Records.{recordsOf}
 use Rattle.comparer_certify_laws.proofs.Kept.{kept-prepared, searchable-kept}

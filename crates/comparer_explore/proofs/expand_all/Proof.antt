@@ -8,7 +8,7 @@ use denote.Ref.{now}
 use borrow.Author.Needs.{needs}
 use Rattle.fra.specs.Rules.{bisimulation}
 use Rattle.fra.specs.declared.Task.{Task}
-use Rattle.game_index.specs.Index.{Indexed}
+use Rattle.old_index.specs.Index.{Indexed}
 use Rattle.outcome.specs.Compare.{capacity}
 use Rattle.comparer_explore_laws.specs.Exploring.{Explorable, Exploring}
 use Rattle.comparer_explore_laws.proofs.Exploring.{exploring-legal, exploring-goes-on, next-overflows}

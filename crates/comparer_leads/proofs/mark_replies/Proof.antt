@@ -7,9 +7,9 @@ use borrow.Author.Needs.{needs}
 use Rattle.fra.specs.Rules.{other, modelOf}
 use Rattle.fra.specs.Position.{stateOf}
 use Rattle.fra_laws.proofs.Legal.{valid-side}
-use Rattle.game_index.specs.Index.{tagOf}
-use Rattle.game_index.proofs.Tables.{edge-read}
-use Rattle.game_index.proofs.Fans.{own-edges, others-edges, fan-read}
+use Rattle.old_index.specs.Index.{tagOf}
+use Rattle.old_index.proofs.Tables.{edge-read}
+use Rattle.old_index.proofs.Fans.{own-edges, others-edges, fan-read}
 use Rattle.game_wins.specs.Wins.{candidates}
 use Rattle.game_wins.proofs.Settling.{answersAt, NextAnswer, answer-found, answer-missing}
 use Rattle.comparer_certify_laws.specs.Marking.{markedAll}

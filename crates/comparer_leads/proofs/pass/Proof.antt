@@ -5,7 +5,7 @@ use mathlib.Core.Logic.{⊎-elim}
 use native.Mathlib.Omega.{arith}
 use borrow.Author.Needs.{needs}
 use Rattle.fra.specs.Rules.{bisimulation}
-use Rattle.game_index.specs.Index.{ForTask}
+use Rattle.old_index.specs.Index.{ForTask}
 use Rattle.comparer_certify_laws.specs.Marking.{passed}
 use Rattle.comparer_certify_laws.proofs.Marking.{pass-taken, pass-left}
 use Rattle.comparer_certify_laws.proofs.Kept.{Kept, kept-refl, kept-trans, kept-led, searchable-kept}

@@ -3,7 +3,7 @@ use mathlib.Core.Path.{_≡_, refl, sym, _∙_, ap}
 use borrow.Author.Needs.{needs}
 use borrow.Author.Tests.{not-true, not-false}
 use Rattle.fra.specs.declared.Task.{Task}
-use Rattle.game_index.specs.Index.{Indexed}
+use Rattle.old_index.specs.Index.{Indexed}
 use Rattle.comparer_rank.specs.Passes.{gains}
 use Rattle.comparer_rank.proofs.Passing.{isWin, gains-unseen, gains-nothing, gains-by}
 use Rattle.comparer_rank.proofs.mark.Statement.{statement}

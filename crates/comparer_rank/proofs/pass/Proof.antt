@@ -11,7 +11,7 @@ use Rattle.fra.specs.Lists.{any}
 use Rattle.fra.specs.Rules.{bisimulation}
 use Rattle.fra.specs.Reach.{reached}
 use Rattle.fra.specs.declared.Task.{Task}
-use Rattle.game_index.specs.Index.{Indexed}
+use Rattle.old_index.specs.Index.{Indexed}
 use Rattle.comparer_rank_laws.specs.Levels.{level, ranked}
 use Rattle.comparer_rank_laws.proofs.Rows.{partly, partly-none, partly-all}
 use Rattle.game_wins.specs.Judgement.{Searchable}

@@ -12,7 +12,7 @@ use Rattle.fra.specs.declared.Task.{Task}
 use Rattle.outcome.specs.Bytes.{allOnes}
 use Rattle.comparer_rank_laws.specs.Levels.{level}
 use Rattle.comparer_rank_laws.proofs.Rows.{partly, partly-none, partly-all}
-use Rattle.game_index.specs.Index.{StatesIndexed}
+use Rattle.old_index.specs.Index.{StatesIndexed}
 use Rattle.comparer_rank.specs.Passes.{Begins}
 use Rattle.comparer_rank.proofs.Passing.{zero-next}
 use Rattle.comparer_rank.proofs.pass_zero.Statement.{statement}

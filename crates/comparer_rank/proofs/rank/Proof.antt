@@ -12,7 +12,7 @@ use Rattle.fra_laws.proofs.Count.{most-positions}
 use Rattle.fra_laws.proofs.Reached.{reached-unique, reached-legal}
 use Rattle.fra.specs.Reach.{reached}
 use Rattle.outcome.specs.Bytes.{allOnes}
-use Rattle.game_index.specs.Index.{Indexed}
+use Rattle.old_index.specs.Index.{Indexed}
 use Rattle.comparer_rank_laws.specs.Levels.{level}
 use Rattle.comparer_rank_laws.proofs.Pairs.{every-pair}
 use Rattle.comparer_rank.specs.Passes.{Ready}

@@ -9,7 +9,7 @@ use Rattle.fra.specs.declared.IdCase.the-variants.{Seen}
 use Rattle.game_moves.proofs.IdCases.{case-seen, casesFrom, NextCase, case-found, no-case}
 use Rattle.game_wins.specs.Judgement.{lostAmong}
 use Rattle.game_wins.specs.Wins.{candidates, settles, caseWinner}
-use Rattle.game_replies.specs.Search.{inCase}
+use Rattle.old_replies.specs.Search.{inCase}
 use Rattle.game_wins.proofs.Winning.{no-case-wins, case-wins, case-fails, seen-last}
 use Rattle.game_wins.proofs.case_win.Statement.{statement}
 use Rattle.game_wins.proofs.case_win.Tie as tie

@@ -1,7 +1,7 @@
 -- `game_wins::may_be_lost` meets its contract, side by side. Assumes nothing.
 use borrow.Author.Needs.{needs}
 use Rattle.game_moves.specs.Rounds.{movedTo}
-use Rattle.game_replies.specs.Search.{afterReply}
+use Rattle.old_replies.specs.Search.{afterReply}
 use Rattle.game_wins.proofs.may_be_lost.Statement.{statement}
 use Rattle.game_wins.proofs.may_be_lost.Tie as tie
 

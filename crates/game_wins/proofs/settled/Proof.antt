@@ -8,7 +8,7 @@ use native.Mathlib.Omega.{arith}
 use lib.ListN.{length}
 use borrow.Author.Needs.{needs}
 use borrow.Author.Tests.{not-true, not-false}
-use Rattle.game_replies.specs.Fan.{candidateAt}
+use Rattle.old_replies.specs.Fan.{candidateAt}
 use Rattle.game_wins.specs.Judgement.{lostAmong}
 use Rattle.game_wins.specs.Wins.{candidates, settles}
 use Rattle.game_wins.proofs.Settling.{answersAt, answer-first, answer-none, settles-none, settles-next}

@@ -7,8 +7,8 @@ use borrow.Author.Needs.{needs}
 use Rattle.fra.specs.Rules.{leftOf, rightOf, modelOf}
 use Rattle.fra.specs.declared.Task.{Task}
 use Rattle.fra_laws.proofs.Legal.{valid-side}
-use Rattle.game_index.specs.Index.{Indexed}
-use Rattle.game_index.proofs.Fans.{starting}
+use Rattle.old_index.specs.Index.{Indexed}
+use Rattle.old_index.proofs.Fans.{starting}
 use Rattle.game_wins.specs.Judgement.{lostAmong}
 use Rattle.game_wins.specs.Wins.{winOf, sideWinner, rangeWinner}
 use Rattle.game_wins.proofs.Winning.{side-by-range, edge-wins, edge-fails, edges-end}

@@ -9,7 +9,7 @@ use denote.Ref.{now}
 use borrow.Author.Needs.{needs}
 use Rattle.fra.specs.Rules.{bisimulation}
 use Rattle.fra.specs.declared.Task.{Task}
-use Rattle.game_index.specs.Index.{Indexed}
+use Rattle.old_index.specs.Index.{Indexed}
 use Rattle.comparer_rank_laws.specs.Rows.{roundsAt}
 use Rattle.comparer_certify_laws.specs.Records.{isListed, recordSize}
 use Rattle.comparer_certify_laws.proofs.Filling.{Filled, filled-none, filled-long, filled-same, next-fits, filled-more, filled-all}

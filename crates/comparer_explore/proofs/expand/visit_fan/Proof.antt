@@ -6,8 +6,8 @@ use mathlib.Core.List.{List}
 use native.Mathlib.Omega.{arith}
 use borrow.Author.Needs.{needs}
 use Rattle.fra.specs.declared.Position.{Position}
-use Rattle.game_replies.specs.Fan.{candidateAt}
-use Rattle.game_replies.specs.declared.fan.Candidate.{Candidate}
+use Rattle.old_replies.specs.Fan.{candidateAt}
+use Rattle.old_replies.specs.declared.fan.Candidate.{Candidate}
 use Rattle.comparer_explore_laws.specs.Growth.{Passed}
 use Rattle.comparer_explore_laws.specs.Pairs.{PairKey}
 use Rattle.comparer_explore_laws.proofs.Growth.{passed-none, passed-next, passed-overflows, passed-all}

@@ -8,9 +8,9 @@ use borrow.Author.Needs.{needs}
 use Rattle.fra.specs.Rules.{bisimulation}
 use Rattle.fra.specs.declared.Task.{Task}
 use Rattle.fra.specs.declared.Side.the-variants.{Left}
-use Rattle.game_replies.specs.Fan.{fanOf}
-use Rattle.game_index.specs.Index.{tagOf, within, Indexed}
-use Rattle.game_index.proofs.Fans.{starting}
+use Rattle.old_replies.specs.Fan.{fanOf}
+use Rattle.old_index.specs.Index.{tagOf, within, Indexed}
+use Rattle.old_index.proofs.Fans.{starting}
 use Rattle.comparer_explore_laws.specs.Stored.{Stored}
 use Rattle.comparer_explore_laws.specs.Growth.{Passed}
 use Rattle.comparer_explore_laws.specs.Pairs.{EdgeKey}

@@ -66,8 +66,8 @@ const LONGEST_TASK: usize = 4096;
 const LONGEST_CERTIFICATE: usize = 131072;
 
 fn main() {
-    let mut task = [0u8; 4097];
-    let mut certificate = [0u8; 131073];
+    let mut task = [0u8; LONGEST_TASK + 1];
+    let mut certificate = [0u8; LONGEST_CERTIFICATE + 1];
     let FileRead::Bytes(n) = read_file(1, &mut task) else {
         return;
     };

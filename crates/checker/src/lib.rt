@@ -1,64 +1,53 @@
 // The certificate checker (01, "Verdict, table, certificate" and "Turned back, in checking order"): a task and a proposed
 // certificate in, acceptance with its verdict and rounds or a refusal out.
-use checker_listing::formed::formed;
-use fra::Task;
+use checker_acceptance::accepted;
+use checker_acceptance::records_of;
+use checker_acceptance::start_rounds;
+use checker_form::formed;
+use game_index::layout::SIZE;
 use outcome::Check;
 use outcome::Verdict;
 use outcome::layout;
 use task::Answer;
 use task_reader::read_task;
 ghost use mathlib.Core.Path.{_≡_};
-ghost use Rattle.fra.specs.Valid.{Valid};
 ghost use Rattle.outcome.specs.Verdicts.{equality};
 ghost use Rattle.outcome.specs.Check.{checkTask, check};
-ghost use Rattle.checker_laws.specs.Answers.{keptAnswer, lossAnswer};
+ghost use Rattle.outcome_laws.specs.Contests.{contestOf};
+ghost use Rattle.game_index.specs.Reading.{taskIn, rulesIn};
+ghost use Rattle.game_index.specs.Writing.{Index};
+ghost use Rattle.checker_laws.specs.CheckAnswers.{listAnswer};
 
-// The answer to a certificate whose first record is of kind 16.
-fn check_kept(t: Task, certificate: &[u8]) -> Check
-    requires { ⌜ Valid 6 t ⌝ }
-    ensures { λ r. ⌜ r ≡ keptAnswer 6 equality t (now (certificate .entry)) ⌝ }
+// The answer to a certificate whose first record is of this verdict's kind.
+fn check_list(index: &[u8; SIZE], certificate: &[u8], verdict: Verdict) -> Check
+    requires { ⌜ Index (now index) ⌝ }
+    ensures { λ r. ⌜ r ≡ listAnswer (rulesIn (now (index .entry))) (taskIn (now (index .entry))) verdict (now (certificate .entry)) ⌝ }
 {
-    if !formed(t, certificate, layout::KEPT_KIND, layout::KEPT_WIDTH) {
+    let records = records_of(verdict, certificate.len());
+    if !formed(index, certificate, verdict.kind(), records) {
         return Check::Refused(13);
     }
-    if !checker_kept::accepted(t, certificate) {
+    if !accepted(index, certificate, verdict) {
         return Check::Refused(14);
     }
     Check::Accepted {
-        verdict: Verdict::Equal,
-        rounds: 0,
+        verdict,
+        rounds: start_rounds(index, certificate, verdict),
     }
 }
 
-// The answer to a certificate whose first record is of kind 17.
-fn check_losses(t: Task, certificate: &[u8]) -> Check
-    requires { ⌜ Valid 6 t ⌝ }
-    ensures { λ r. ⌜ r ≡ lossAnswer 6 equality t (now (certificate .entry)) ⌝ }
-{
-    if !formed(t, certificate, layout::LOST_KIND, layout::LOST_WIDTH) {
-        return Check::Refused(13);
-    }
-    if !checker_lost::accepted(t, certificate) {
-        return Check::Refused(14);
-    }
-    Check::Accepted {
-        verdict: Verdict::Differ,
-        rounds: checker_lost::start_rounds(t, certificate),
-    }
-}
-
-// The answer for a task that was read. A certificate of no record is well formed and not accepted.
-pub fn check_task(t: Task, certificate: &[u8]) -> Check
-    requires { ⌜ Valid 6 t ⌝ }
-    ensures { λ r. ⌜ r ≡ checkTask 6 equality t (now (certificate .entry)) ⌝ }
+// The answer for the task of an index. A certificate of no record is well formed and not accepted.
+fn check_indexed(index: &[u8; SIZE], certificate: &[u8]) -> Check
+    requires { ⌜ Index (now index) ⌝ }
+    ensures { λ r. ⌜ r ≡ checkTask 6 (contestOf (rulesIn (now (index .entry)))) (taskIn (now (index .entry))) (now (certificate .entry)) ⌝ }
 {
     if certificate.len() == 0 {
         return Check::Refused(14);
     }
     let kind = certificate[0];
     match kind {
-        layout::KEPT_KIND => check_kept(t, certificate),
-        layout::LOST_KIND => check_losses(t, certificate),
+        layout::KEPT_KIND => check_list(index, certificate, Verdict::Equal),
+        layout::LOST_KIND => check_list(index, certificate, Verdict::Differ),
         _ => Check::Refused(13),
     }
 }
@@ -69,9 +58,9 @@ pub fn check(file: &[u8], certificate: &[u8]) -> Check
 {
     let read = read_task(file);
     let answer = read.answer;
-    let task = read.task;
-    match answer {
-        Answer::Read => check_task(task, certificate),
-        Answer::Refused(n) => Check::Refused(n),
+    if let Answer::Refused(n) = answer {
+        return Check::Refused(n);
     }
+    let index = game_indexing::of(read.task);
+    check_indexed(&index, certificate)
 }

@@ -1,6 +1,6 @@
-pub mod Lists
-pub mod Records
-pub mod Answers
-pub mod Places
-pub mod Tries
-pub mod Losses
+-- Laws of a proposed certificate by the places of its records, for the proofs of the functions.
+pub mod RecordBodies
+pub mod CertificateForm
+pub mod CheckAnswers
+pub mod LookedUp
+pub mod LossConditions

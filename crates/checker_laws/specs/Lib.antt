@@ -1,4 +1,3 @@
--- What a check of a certificate looks at: records by their places in the bytes, and attacks by side, edge and case.
-pub mod Records
-pub mod Answers
-pub mod Tries
+-- The records of a certificate by their places in its bytes, and what is answered to them.
+pub mod CertificateRecords
+pub mod CheckAnswers

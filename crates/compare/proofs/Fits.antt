@@ -2,7 +2,6 @@
 use Prim.Native.Nat.{ℕ, _≤_}
 use mathlib.Core.Path.{_≡_, sym}
 use mathlib.Core.List.{List}
-use native.Mathlib.Omega.{arith}
 use lib.ListN.{length}
 use Rattle.task.specs.TaskFile.{readTask}
 use Rattle.task.specs.declared.Answer.{Answer}
@@ -12,6 +11,7 @@ use Rattle.outcome.specs.Compare.{compareRead, compare}
 use Rattle.outcome.specs.declared.Verdict.{Verdict}
 use Rattle.outcome.specs.declared.Comparison.the-variants.{Decided}
 use Rattle.outcome_laws.proofs.Compare.{verdict-says}
+use Rattle.fra_laws.proofs.Tests.{clash}
 
 pub length-fits : {v : Verdict} {positions n size : ℕ} (file table buffer : List ℕ)
     → Decided v positions n size ≡ compare equality file table buffer .answer
@@ -21,4 +21,4 @@ length-fits {v} {positions} {n} {size} file table buffer e = by (readTask file .
   where
     by : (a : Answer) → compareRead equality a (readTask file .task) table buffer .answer ≡ Decided v positions n size → size ≤ length buffer
     by Read d = verdict-says equality (readTask file .task) table buffer v positions n size d .fits
-    by (Unread k) d = let z : _≡_ {A = ℕ} 0 1 = cc in absurd (omega arith)
+    by (Unread k) d = clash (cc)

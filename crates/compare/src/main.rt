@@ -2,17 +2,25 @@
 // lines of text on standard output.
 use libc::STDIN_FILENO;
 use libc::STDOUT_FILENO;
+use listing::words::word_at;
 use outcome::Comparison;
 use outcome::Verdict;
+use outcome::layout::ENTRY;
 use outcome::layout::KEPT_WIDTH;
-use outcome::layout::LOST_WIDTH;
 use outcome::layout::POSITION;
 use outcome::layout::ROUNDS;
 ghost use Prim.Native.Nat.{_+_, _≤_};
 ghost use lib.ListN.{length};
+ghost use Rattle.outcome.specs.Verdicts.{widthOf};
+ghost use Rattle.outcome.specs.declared.Verdict.the-variants.{Equal, Differ};
 
 // "a task of at most 4,096 bytes"
 const LONGEST_TASK: usize = 4096;
+
+// "4,000 table entries and a 64,000-byte certificate"
+const ENTRIES: usize = 4000;
+
+const LONGEST_CERTIFICATE: usize = 64000;
 
 fn print(text: &[u8]) {
     io::write_all(STDOUT_FILENO, text);
@@ -40,7 +48,7 @@ fn print_bytes(bytes: &[u8], from: usize, to: usize)
 
 // "EQUAL lines are `KEPT` and eight numbers."
 fn print_kept(certificate: &[u8], at: usize)
-    requires { ⌜ at + 9 ≤ length (now certificate) ⌝ }
+    requires { ⌜ at + widthOf Equal ≤ length (now certificate) ⌝ }
 {
     print(b"KEPT");
     print_bytes(certificate, at + POSITION, at + KEPT_WIDTH);
@@ -49,31 +57,32 @@ fn print_kept(certificate: &[u8], at: usize)
 
 // "per record: two states, six partners, side, edge, case, rounds"
 fn print_lost(certificate: &[u8], at: usize)
-    requires { ⌜ at + 16 ≤ length (now certificate) ⌝ }
+    requires { ⌜ at + widthOf Differ ≤ length (now certificate) ⌝ }
 {
     print(b"LOST");
     print_bytes(certificate, at + POSITION, at + ROUNDS);
-    print_number(table::word_at(certificate, at + ROUNDS) as u64);
+    print_number(word_at(certificate, at + ROUNDS) as u64);
     print(b"\n");
 }
 
-fn print_all_kept(certificate: &[u8], size: usize)
-    requires { ⌜ size ≤ length (now certificate) ⌝ }
+fn print_record(verdict: Verdict, certificate: &[u8], at: usize)
+    requires { ⌜ at + widthOf verdict ≤ length (now certificate) ⌝ }
 {
-    let mut at = 0;
-    while KEPT_WIDTH <= size - at {
-        print_kept(certificate, at);
-        at += KEPT_WIDTH;
+    match verdict {
+        Verdict::Equal => print_kept(certificate, at),
+        Verdict::Differ => print_lost(certificate, at),
     }
 }
 
-fn print_all_lost(certificate: &[u8], size: usize)
+// The records of a certificate of this size.
+fn print_certificate(verdict: Verdict, certificate: &[u8], size: usize)
     requires { ⌜ size ≤ length (now certificate) ⌝ }
 {
+    let width = verdict.width();
     let mut at = 0;
-    while LOST_WIDTH <= size - at {
-        print_lost(certificate, at);
-        at += LOST_WIDTH;
+    while width <= size - at {
+        print_record(verdict, certificate, at);
+        at += width;
     }
 }
 
@@ -88,25 +97,16 @@ fn print_verdict(verdict: Verdict, positions: u32, rounds: u32) {
     print(b"\n");
 }
 
-fn print_certificate(verdict: Verdict, certificate: &[u8], size: usize)
-    requires { ⌜ size ≤ length (now certificate) ⌝ }
-{
-    match verdict {
-        Verdict::Equal => print_all_kept(certificate, size),
-        Verdict::Differ => print_all_lost(certificate, size),
-    }
-}
-
 fn print_refusal(n: u8) {
     print(b"REFUSED");
     print_byte(n);
     print(b"\n");
 }
 
-// Compares with 4,000 table entries and a certificate buffer of 64,000 bytes, and prints the answer.
+// Compares in a lent table and buffer of these sizes, and prints the answer.
 fn print_comparison(task: &[u8]) {
-    let mut table = [0u8; 48000];
-    let mut certificate = [0u8; 64000];
+    let mut table = [0u8; ENTRIES * ENTRY];
+    let mut certificate = [0u8; LONGEST_CERTIFICATE];
     match comparer::compare(task, &mut table, &mut certificate) {
         Comparison::Decided {
             verdict,
@@ -122,7 +122,7 @@ fn print_comparison(task: &[u8]) {
 }
 
 fn main() {
-    let mut task = [0u8; 4097];
+    let mut task = [0u8; LONGEST_TASK + 1];
     let n = io::read_full(STDIN_FILENO, &mut task);
     if LONGEST_TASK < n {
         print(b"TOO LONG\n");

@@ -7,21 +7,29 @@ use mathlib.Core.List.{List, map}
 use mathlib.Core.Option.{Option, none, some}
 use lib.ListN.{length}
 use lib.Dec.{eqb}
-use Rattle.fra.specs.Rules.{bisimulation}
 use Rattle.fra.specs.Reach.{reached}
-use Rattle.fra.specs.declared.Task.{Task}
 use Rattle.outcome.specs.Bytes.{allOnes}
-use Rattle.outcome.specs.Compare.{Outcome}
+use Rattle.outcome.specs.Compare.{Outcome, judge, compareTask}
 use Rattle.outcome.specs.declared.Comparison.{Comparison}
+use Rattle.listing.specs.Widths.{entryWidth}
+use Rattle.game_index.specs.Reading.{taskIn, rulesIn}
+use Rattle.comparer_certify.specs.CertifyAnswers.{contestIn}
 use Rattle.table_laws.specs.Keys.{keyOf}
 use Rattle.table_laws.specs.Sorted.{Permuted}
 use Rattle.table_laws.specs.Table.{keys}
 
 -- the first n entries hold the keys of the positions reached, in some order
-pub record Found (t : Task) (n : ℕ) (table : List ℕ) : Type 0 where
-  pub counted : n ≡ length (reached bisimulation t)
-  pub room : n * 12 ≤ length table
-  pub found : Permuted (keys n table) (map keyOf (reached bisimulation t))
+pub record Found (b : List ℕ) (n : ℕ) (table : List ℕ) : Type 0 where
+  pub counted : n ≡ length (reached (rulesIn b) (taskIn b))
+  pub room : n * entryWidth ≤ length table
+  pub found : Permuted (keys n table) (map keyOf (reached (rulesIn b) (taskIn b)))
+
+-- the outcome of a comparison of the models of an index, and of one whose table has the rounds of all positions reached
+abbrev pub outcomeIn : List ℕ → List ℕ → List ℕ → Outcome
+outcomeIn b = compareTask (contestIn b) (taskIn b)
+
+abbrev pub judgedIn : List ℕ → List ℕ → List ℕ → Outcome
+judgedIn b = judge (contestIn b) (taskIn b)
 
 -- rounds as the table has them: "FF FF FF FF if never lost"
 abbrev pub roundsFrom : ℕ → Option ℕ

@@ -2,38 +2,40 @@
 // refusal out. It has no memory but what is lent.
 use comparer_certify::Certified;
 use comparer_explore::Explored;
-use fra::Task;
+use game_index::layout::SIZE;
 use outcome::Comparison;
 use outcome::Verdict;
+use outcome::layout::ENTRY;
+use outcome::layout::NEVER;
 use task::Answer;
 ghost use Prim.Native.Nat.{_^_, _<_};
 ghost use mathlib.Core.Path.{_≡_};
-ghost use Rattle.fra.specs.Valid.{Valid};
 ghost use Rattle.outcome.specs.Bytes.{cleared};
 ghost use Rattle.outcome.specs.Verdicts.{equality};
-ghost use Rattle.outcome.specs.Compare.{decided, judge, compareTask, compare};
+ghost use Rattle.outcome.specs.Compare.{decided, compare};
 ghost use Rattle.outcome.specs.declared.Comparison.the-variants.{Refused};
-ghost use Rattle.comparer_certify.specs.Outcome.{Ranked};
-ghost use Rattle.comparer.specs.Outcomes.{Found, roundsFrom, Gives};
+ghost use Rattle.game_index.specs.Writing.{Index};
+ghost use Rattle.comparer_certify.specs.CertifyAnswers.{Ranked};
+ghost use Rattle.comparer.specs.Outcomes.{Found, outcomeIn, judgedIn, roundsFrom, Gives};
 
 // The verdict by the start's rounds.
-fn decided(positions: usize, rounds: u32, length: usize) -> Comparison
+fn decided(positions: usize, rounds: u32, written: usize) -> Comparison
     requires { ⌜ positions < 2 ^ 32 ⌝ }
-    ensures { λ r. ⌜ r ≡ decided equality positions (roundsFrom rounds) length ⌝ }
+    ensures { λ r. ⌜ r ≡ decided equality positions (roundsFrom rounds) written ⌝ }
 {
-    if rounds == table::NEVER {
+    if rounds == NEVER {
         return Comparison::Decided {
             verdict: Verdict::Equal,
             positions: positions as u32,
             rounds: 0,
-            length,
+            length: written,
         };
     }
     Comparison::Decided {
         verdict: Verdict::Differ,
         positions: positions as u32,
         rounds,
-        length,
+        length: written,
     }
 }
 
@@ -47,41 +49,40 @@ fn refuse(table: &mut [u8], n: u8) -> Comparison
 }
 
 // Puts the positions found in order, as entries with their rounds.
-fn settle(table: &mut [u8], n: usize, t: Task)
-    requires { ⌜ Found t n (now table) ⌝ }
-    requires { ⌜ Valid 6 t ⌝ }
-    ensures { λ _. ⌜ Ranked t n (now (table .exit)) ⌝ }
+fn settle(table: &mut [u8], n: usize, index: &[u8; SIZE])
+    requires { ⌜ Index (now index) ⌝ }
+    requires { ⌜ Found (now index) n (now table) ⌝ }
+    ensures { λ _. ⌜ Ranked (now (index .entry)) n (now (table .exit)) ⌝ }
 {
     table_sorting::sort_keys(table, n);
     table::lay_out(table, n);
-    comparer_rank::rank(table, n, t);
+    comparer_rank::rank(table, n, index);
 }
 
 // The verdict, once the table has the rounds of all positions reached: 12, or the certificate is written.
-fn judge(t: Task, table: &mut [u8], n: usize, certificate: &mut [u8]) -> Comparison
-    requires { ⌜ Ranked t n (now table) ⌝ }
-    requires { ⌜ Valid 6 t ⌝ }
-    ensures { λ r. ⌜ Gives (judge equality t (now (table .entry)) (now (certificate .entry))) r (now (table .exit)) (now (certificate .exit)) ⌝ }
+fn judge(table: &mut [u8], n: usize, index: &[u8; SIZE], certificate: &mut [u8]) -> Comparison
+    requires { ⌜ Index (now index) ⌝ }
+    requires { ⌜ Ranked (now index) n (now table) ⌝ }
+    ensures { λ r. ⌜ Gives (judgedIn (now (index .entry)) (now (table .entry)) (now (certificate .entry))) r (now (table .exit)) (now (certificate .exit)) ⌝ }
 {
-    let start = t.start;
-    let rounds = comparer_marks::rounds_of(table, n, start);
-    let Certified::Length(length) = comparer_certify::certify(t, table, n, certificate) else {
+    let rounds = comparer_marks::rounds_of(table, n, game_index::start(index));
+    let Certified::Length(written) = comparer_certify::certify(table, n, index, certificate) else {
         return refuse(table, 12);
     };
-    table::clear_from(table, n * table::ENTRY);
-    decided(n, rounds, length)
+    table::clear_from(table, n * ENTRY);
+    decided(n, rounds, written)
 }
 
-// Compares the models of a task.
-pub fn compare_task(t: Task, table: &mut [u8], certificate: &mut [u8]) -> Comparison
-    requires { ⌜ Valid 6 t ⌝ }
-    ensures { λ r. ⌜ Gives (compareTask equality t (now (table .entry)) (now (certificate .entry))) r (now (table .exit)) (now (certificate .exit)) ⌝ }
+// Compares the models of an index.
+fn compare_indexed(index: &[u8; SIZE], table: &mut [u8], certificate: &mut [u8]) -> Comparison
+    requires { ⌜ Index (now index) ⌝ }
+    ensures { λ r. ⌜ Gives (outcomeIn (now (index .entry)) (now (table .entry)) (now (certificate .entry))) r (now (table .exit)) (now (certificate .exit)) ⌝ }
 {
-    let Explored::Count(n) = comparer_explore::explore(t, table) else {
+    let Explored::Count(n) = comparer_explore::explore(index, table) else {
         return refuse(table, 11);
     };
-    settle(table, n, t);
-    judge(t, table, n, certificate)
+    settle(table, n, index);
+    judge(table, n, index, certificate)
 }
 
 // Compares the models of a task file.
@@ -93,5 +94,6 @@ pub fn compare(file: &[u8], table: &mut [u8], certificate: &mut [u8]) -> Compari
     if let Answer::Refused(n) = answer {
         return Comparison::Refused(n);
     }
-    compare_task(read.task, table, certificate)
+    let index = game_indexing::of(read.task);
+    compare_indexed(&index, table, certificate)
 }

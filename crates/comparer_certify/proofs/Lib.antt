@@ -1,4 +1,4 @@
 -- Lemmas that the proofs of the functions share.
-pub mod Parts
-pub mod Outcomes
-pub mod Certificates
+pub mod RecordParts
+pub mod FittingBuffers
+pub mod RankedCertificates

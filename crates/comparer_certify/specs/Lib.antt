@@ -1,3 +1,3 @@
 -- What the functions compute, in terms of the table's bytes and of the game.
-pub mod Fields
-pub mod Outcome
+pub mod RecordFields
+pub mod CertifyAnswers

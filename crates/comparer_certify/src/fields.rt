@@ -1,32 +1,32 @@
 // The bytes of a certificate's records (01, "Verdict, table, certificate").
 use comparer_leads::attack_of;
 use fra::IdCase;
+use fra::Position;
 use fra::Side;
+use game_index::layout::SIZE;
 use game_wins::Win;
-use old_replies::fan;
+use listing::Listing;
+use listing::position_at;
+use listing::put_position;
+use listing::rounds_at;
+use listing::words::put_word;
 use outcome::Verdict;
 use outcome::layout::KEPT_KIND;
-use outcome::layout::KEPT_WIDTH;
 use outcome::layout::LOST_KIND;
-use outcome::layout::LOST_WIDTH;
+use outcome::layout::POSITION;
 use outcome::layout::ROUNDS;
 use outcome::layout::SIDE;
-use table::ENTRY;
-use table::position_at;
-use table::put_word;
-use table::word_at;
-ghost use Prim.Native.Nat.{_+_, _*_, _≤_, _<_};
+ghost use Prim.Native.Nat.{_+_, _≤_, _<_};
 ghost use mathlib.Core.Path.{_≡_};
 ghost use lib.ListN.{length};
 ghost use lib.Seq.{sets};
-ghost use Rattle.fra.specs.Rules.{bisimulation};
 ghost use Rattle.outcome.specs.Certificate.{sideNumber, caseNumber, keptRecord};
 ghost use Rattle.outcome.specs.declared.Verdict.the-variants.{Differ};
-ghost use Rattle.table_laws.specs.Table.{positionAt};
-ghost use Rattle.old_index.specs.Index.{ForTask};
-ghost use Rattle.game_wins.specs.Judgement.{Searchable};
-ghost use Rattle.comparer_certify_laws.specs.Records.{recordSize, recordAt};
-ghost use Rattle.comparer_certify.specs.Fields.{attackBytes};
+ghost use Rattle.listing.specs.Widths.{keptWidth, lostWidth};
+ghost use Rattle.listing.specs.Listing.{ofTable, Searchable};
+ghost use Rattle.game_index.specs.Writing.{Index};
+ghost use Rattle.outcome.specs.Verdicts.{widthOf};
+ghost use Rattle.comparer_certify.specs.RecordFields.{attackWidth, attackBytes, recordIn};
 
 fn side_number(side: Side) -> u8
     ensures { λ r. ⌜ r ≡ sideNumber side ⌝ }
@@ -48,20 +48,18 @@ fn case_number(case: IdCase) -> u8
     }
 }
 
-// Writes a kind and the position of entry i.
-pub fn put_head(table: &[u8], i: usize, kind: u8, buffer: &mut [u8], at: usize)
-    requires { ⌜ i * 12 + 12 ≤ length (now table) ⌝ }
-    requires { ⌜ at + 9 ≤ length (now buffer) ⌝ }
-    ensures { λ _. ⌜ now (buffer .exit) ≡ sets (now (buffer .entry)) at (keptRecord kind (positionAt (now (table .entry)) i)) ⌝ }
+// Writes a kind and a position.
+fn put_head(buffer: &mut [u8], at: usize, kind: u8, p: Position)
+    requires { ⌜ at + keptWidth ≤ length (now buffer) ⌝ }
+    ensures { λ _. ⌜ now (buffer .exit) ≡ sets (now (buffer .entry)) at (keptRecord kind p) ⌝ }
 {
     buffer[at] = kind;
-    put_word(buffer, at + 1, word_at(table, i * ENTRY));
-    put_word(buffer, at + 5, word_at(table, i * ENTRY + 4));
+    put_position(buffer, at + POSITION, p);
 }
 
 // Writes the side, edge and case of an attack, or zeros where there is none.
-pub fn put_attack(buffer: &mut [u8], at: usize, attack: Win)
-    requires { ⌜ at + 3 ≤ length (now buffer) ⌝ }
+fn put_attack(buffer: &mut [u8], at: usize, attack: Win)
+    requires { ⌜ at + attackWidth ≤ length (now buffer) ⌝ }
     ensures { λ _. ⌜ now (buffer .exit) ≡ sets (now (buffer .entry)) at (attackBytes attack) ⌝ }
 {
     match attack {
@@ -81,23 +79,16 @@ pub fn put_attack(buffer: &mut [u8], at: usize, attack: Win)
 }
 
 // Writes the record of entry i, a lost position, whose rounds are doubled in the table.
-fn put_loss(
-    table: &[u8],
-    n: usize,
-    left: &[u8; fan::SIZE],
-    right: &[u8; fan::SIZE],
-    states: &[u8; old_index::STATES],
-    i: usize,
-    buffer: &mut [u8],
-    at: usize,
-)
-    requires { ⌜ Searchable n (now table) ⌝ }
-    requires { ⌜ (i < n) × (at + 16 ≤ length (now buffer)) ⌝ }
-    ensures { λ _. ⌜ ForTask (now (left .entry)) (now (right .entry)) (now (states .entry)) (now (buffer .exit)) (λ t. sets (now (buffer .entry)) at (recordAt bisimulation t Differ n (now (table .entry)) i)) ⌝ }
+fn put_loss(table: &[u8], n: usize, index: &[u8; SIZE], i: usize, buffer: &mut [u8], at: usize)
+    requires { ⌜ Searchable (ofTable n) (now table) ⌝ }
+    requires { ⌜ Index (now index) × (i < n) × (at + lostWidth ≤ length (now buffer)) ⌝ }
+    ensures { λ _. ⌜ now (buffer .exit) ≡ sets (now (buffer .entry)) at (recordIn (now (index .entry)) Differ n (now (table .entry)) i) ⌝ }
 {
-    let rounds = word_at(table, i * ENTRY + table::ROUNDS) / 2;
-    let attack = attack_of(table, n, left, right, states, position_at(table, i), rounds);
-    put_head(table, i, LOST_KIND, buffer, at);
+    let entries = Listing::of_table(n);
+    let p = position_at(table, entries, i);
+    let rounds = rounds_at(table, entries, i) / 2;
+    let attack = attack_of(table, n, index, p, rounds);
+    put_head(buffer, at, LOST_KIND, p);
     put_attack(buffer, at + SIDE, attack);
     put_word(buffer, at + ROUNDS, rounds);
 }
@@ -106,30 +97,21 @@ fn put_loss(
 pub fn put_record(
     table: &[u8],
     n: usize,
-    left: &[u8; fan::SIZE],
-    right: &[u8; fan::SIZE],
-    states: &[u8; old_index::STATES],
+    index: &[u8; SIZE],
     verdict: Verdict,
     i: usize,
     buffer: &mut [u8],
     at: usize,
 )
-    requires { ⌜ Searchable n (now table) ⌝ }
-    requires { ⌜ (i < n) × (at + recordSize verdict ≤ length (now buffer)) ⌝ }
-    ensures { λ _. ⌜ ForTask (now (left .entry)) (now (right .entry)) (now (states .entry)) (now (buffer .exit)) (λ t. sets (now (buffer .entry)) at (recordAt bisimulation t verdict n (now (table .entry)) i)) ⌝ }
+    requires { ⌜ Searchable (ofTable n) (now table) ⌝ }
+    requires { ⌜ Index (now index) × (i < n) × (at + widthOf verdict ≤ length (now buffer)) ⌝ }
+    ensures { λ _. ⌜ now (buffer .exit) ≡ sets (now (buffer .entry)) at (recordIn (now (index .entry)) verdict n (now (table .entry)) i) ⌝ }
 {
     match verdict {
-        Verdict::Equal => put_head(table, i, KEPT_KIND, buffer, at),
-        Verdict::Differ => put_loss(table, n, left, right, states, i, buffer, at),
-    }
-}
-
-// The width of a record.
-pub fn width(verdict: Verdict) -> usize
-    ensures { λ r. ⌜ r ≡ recordSize verdict ⌝ }
-{
-    match verdict {
-        Verdict::Equal => KEPT_WIDTH,
-        Verdict::Differ => LOST_WIDTH,
+        Verdict::Equal => {
+            let p = position_at(table, Listing::of_table(n), i);
+            put_head(buffer, at, KEPT_KIND, p);
+        }
+        Verdict::Differ => put_loss(table, n, index, i, buffer, at),
     }
 }

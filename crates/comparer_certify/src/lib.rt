@@ -8,11 +8,11 @@ use comparer_leads::prepare;
 use comparer_marks::Scale;
 use comparer_marks::rescale;
 use comparer_marks::rounds_of;
-use fra::Task;
+use game_index::layout::SIZE;
 use outcome::Verdict;
-use table::NEVER;
-ghost use Rattle.fra.specs.Valid.{Valid};
-ghost use Rattle.comparer_certify.specs.Outcome.{Ranked, certificateOf, Certifies};
+use outcome::layout::NEVER;
+ghost use Rattle.game_index.specs.Writing.{Index};
+ghost use Rattle.comparer_certify.specs.CertifyAnswers.{Ranked, certificateIn, Certifies};
 
 // The length of a certificate that was written, or that it is longer than its buffer.
 pub enum Certified {
@@ -21,21 +21,17 @@ pub enum Certified {
 }
 
 // Writes the certificate of a table of n entries.
-pub fn certify(t: Task, table: &mut [u8], n: usize, buffer: &mut [u8]) -> Certified
-    requires { ⌜ Valid 6 t ⌝ }
-    requires { ⌜ Ranked t n (now table) ⌝ }
-    ensures { λ r. ⌜ Certifies (certificateOf t) (now (table .entry)) (now (buffer .entry)) r (now (table .exit)) (now (buffer .exit)) ⌝ }
+pub fn certify(table: &mut [u8], n: usize, index: &[u8; SIZE], buffer: &mut [u8]) -> Certified
+    requires { ⌜ Index (now index) ⌝ }
+    requires { ⌜ Ranked (now index) n (now table) ⌝ }
+    ensures { λ r. ⌜ Certifies (certificateIn (now (index .entry))) (now (table .entry)) (now (buffer .entry)) r (now (table .exit)) (now (buffer .exit)) ⌝ }
 {
-    let left = old_index::edges(t.left);
-    let right = old_index::edges(t.right);
-    let states = old_index::states(t);
-    let start = t.start;
-    let rounds = rounds_of(table, n, start);
+    let rounds = rounds_of(table, n, game_index::start(index));
     if rounds == NEVER {
-        return write(table, n, t, &left, &right, &states, Verdict::Equal, buffer);
+        return write(table, n, index, Verdict::Equal, buffer);
     }
-    prepare(table, n, t, &left, &right, &states, rounds);
-    let answer = write(table, n, t, &left, &right, &states, Verdict::Differ, buffer);
+    prepare(table, n, index, rounds);
+    let answer = write(table, n, index, Verdict::Differ, buffer);
     rescale(table, n, Scale::Halve);
     answer
 }

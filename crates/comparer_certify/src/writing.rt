@@ -1,48 +1,35 @@
-// The records of all entries that have one, written if they fit. The task is read by its index; it is taken too, to say whose
-// index it is.
+// The records of all entries that have one, written if they fit.
 use crate::Certified;
 use crate::fields::put_record;
-use crate::fields::width;
 use comparer_marks::count_listed;
 use comparer_marks::is_listed;
-use fra::Task;
-use old_replies::fan;
+use game_index::layout::SIZE;
+use listing::Listing;
+use listing::rounds_at;
 use outcome::Verdict;
-use table::ENTRY;
-use table::ROUNDS;
-use table::word_at;
-ghost use Prim.Native.Nat.{_^_, _≤_, _<_};
+ghost use Prim.Native.Nat.{_≤_};
 ghost use mathlib.Core.Path.{_≡_};
 ghost use lib.ListN.{length};
 ghost use lib.Seq.{sets};
-ghost use Rattle.fra.specs.Rules.{bisimulation};
-ghost use Rattle.old_index.specs.Index.{Indexed};
-ghost use Rattle.game_wins.specs.Judgement.{Searchable};
-ghost use Rattle.comparer_certify_laws.specs.Records.{recordsOf};
-ghost use Rattle.comparer_certify.specs.Outcome.{Certifies};
+ghost use Rattle.listing.specs.Listing.{ofTable, Searchable};
+ghost use Rattle.game_index.specs.Writing.{Index};
+ghost use Rattle.comparer_certify.specs.RecordFields.{recordsIn};
+ghost use Rattle.comparer_certify.specs.CertifyAnswers.{Certifies};
 
 // Writes the records from the buffer's start.
-fn put_records(
-    table: &[u8],
-    n: usize,
-    t: Task,
-    left: &[u8; fan::SIZE],
-    right: &[u8; fan::SIZE],
-    states: &[u8; old_index::STATES],
-    verdict: Verdict,
-    buffer: &mut [u8],
-)
-    requires { ⌜ Searchable n (now table) ⌝ }
-    requires { ⌜ Indexed t (now left) (now right) (now states) ⌝ }
-    requires { ⌜ length (recordsOf bisimulation t verdict n (now table)) ≤ length (now buffer) ⌝ }
-    ensures { λ _. ⌜ now (buffer .exit) ≡ sets (now (buffer .entry)) 0 (recordsOf bisimulation t verdict n (now (table .entry))) ⌝ }
+fn put_records(table: &[u8], n: usize, index: &[u8; SIZE], verdict: Verdict, buffer: &mut [u8])
+    requires { ⌜ Searchable (ofTable n) (now table) ⌝ }
+    requires { ⌜ Index (now index) ⌝ }
+    requires { ⌜ length (recordsIn (now index) verdict n (now table)) ≤ length (now buffer) ⌝ }
+    ensures { λ _. ⌜ now (buffer .exit) ≡ sets (now (buffer .entry)) 0 (recordsIn (now (index .entry)) verdict n (now (table .entry))) ⌝ }
 {
+    let entries = Listing::of_table(n);
     let mut at = 0;
     let mut i = 0;
     while i < n {
-        if is_listed(verdict, word_at(table, i * ENTRY + ROUNDS)) {
-            put_record(table, n, left, right, states, verdict, i, buffer, at);
-            at += width(verdict);
+        if is_listed(verdict, rounds_at(table, entries, i)) {
+            put_record(table, n, index, verdict, i, buffer, at);
+            at += verdict.width();
         }
         i += 1;
     }
@@ -52,22 +39,18 @@ fn put_records(
 pub fn write(
     table: &[u8],
     n: usize,
-    t: Task,
-    left: &[u8; fan::SIZE],
-    right: &[u8; fan::SIZE],
-    states: &[u8; old_index::STATES],
+    index: &[u8; SIZE],
     verdict: Verdict,
     buffer: &mut [u8],
 ) -> Certified
-    requires { ⌜ Searchable n (now table) ⌝ }
-    requires { ⌜ Indexed t (now left) (now right) (now states) ⌝ }
-    requires { ⌜ n < 2 ^ 30 ⌝ }
-    ensures { λ r. ⌜ Certifies (recordsOf bisimulation t verdict n (now (table .entry))) (now (table .entry)) (now (buffer .entry)) r (now (table .entry)) (now (buffer .exit)) ⌝ }
+    requires { ⌜ Searchable (ofTable n) (now table) ⌝ }
+    requires { ⌜ Index (now index) ⌝ }
+    ensures { λ r. ⌜ Certifies (recordsIn (now (index .entry)) verdict n (now (table .entry))) (now (table .entry)) (now (buffer .entry)) r (now (table .entry)) (now (buffer .exit)) ⌝ }
 {
-    let length = count_listed(table, n, verdict) * width(verdict);
-    if buffer.len() < length {
+    let size = count_listed(table, n, verdict) * verdict.width();
+    if buffer.len() < size {
         return Certified::TooLong;
     }
-    put_records(table, n, t, left, right, states, verdict, buffer);
-    Certified::Length(length)
+    put_records(table, n, index, verdict, buffer);
+    Certified::Length(size)
 }

@@ -1,10 +1,10 @@
--- A table of the positions reached in which rounds are doubled and some entries marked: it judges positions as "lost within k rounds"
--- does, its marks are set as the test for marked positions is, and the passes over it mark the positions of the certificate. Assumes
--- nothing.
+-- A table of the positions reached in which rounds are doubled and some entries marked: it judges positions as "lost within k
+-- rounds" does, its marks are set as the test for marked positions is, and the passes over it mark the positions of the
+-- certificate. Assumes nothing.
 use Prim.Native.Nat.{ℕ, zero, suc, _+_, _*_, _-_, _^_, _≤_, _<_}
 use mathlib.Core.Path.{_≡_, refl, sym, _∙_, ap, subst}
 use mathlib.Core.Logic.{_↔_}
-use mathlib.Core.Bool.{Bool, true, false, cond, or-false}
+use mathlib.Core.Bool.{Bool, true, false, or-false}
 use mathlib.Core.List.{List, [], _∷_, _++_, List·Memᴰ·head, List·Memᴰ·tail}
 use mathlib.Core.Option.{Option, none, some}
 use native.Mathlib.Omega.{arith}
@@ -14,84 +14,64 @@ use lib.Dec.{ltb, eqb}
 use borrow.Author.Tests.{eq-eqb, ne-eqb}
 use borrow.Author.Count.{below-more}
 use Rattle.fra.specs.Lists.{_∈_}
-use Rattle.fra.specs.Rules.{Rules, modelOf}
+use Rattle.fra.specs.Rules.{Rules}
 use Rattle.fra.specs.Position.{unmatched}
-use Rattle.fra.specs.Game.{attacks, lostWithin}
+use Rattle.fra.specs.Game.{lostWithin}
 use Rattle.fra.specs.Reach.{onward, reached, rounds}
 use Rattle.fra.specs.Valid.{Valid}
 use Rattle.fra.specs.declared.Position.{Position}
 use Rattle.fra.specs.declared.Task.{Task}
 use Rattle.fra.specs.declared.Attack.{Attack}
 use Rattle.fra_laws.proofs.Tests.{not-both, fails-unless}
-use Rattle.fra_laws.proofs.Lists.{first-found}
-use Rattle.fra_laws.proofs.Legal.{legal-facts, attack-edge-exists}
-use Rattle.fra_laws.proofs.Reached.{reached-rising, reached-legal, reached-after}
-use Rattle.fra_laws.proofs.Rounds.{rank-some}
-use Rattle.fra_laws.proofs.Records.{at-member}
+use Rattle.fra_laws.proofs.Reached.{reached-rising, reached-after}
+use Rattle.fra_laws.proofs.Ranks.{rank-some}
+use Rattle.fra_laws.proofs.FixedWidth.{at-member, member-place}
 use Rattle.outcome.specs.Check.{same}
 use Rattle.outcome.specs.Certificate.{attackOf, attackLeads, lossStep}
 use Rattle.outcome_laws.proofs.Accepted.{same-passes}
-use Rattle.table_laws.specs.Table.{putWord, positionAt, positions}
-use Rattle.table.specs.Places.{placeOf}
-use Rattle.table.specs.declared.Place.the-variants.{At}
+use Rattle.listing.specs.Widths.{entryWidth, entryRounds}
+use Rattle.listing.specs.Words.{putWord}
+use Rattle.listing.specs.Listing.{ofTable, positionAt, positionsIn}
+use Rattle.listing.specs.Lookup.{placeOf}
+use Rattle.listing.specs.declared.Place.the-variants.{At}
+use Rattle.game_replies.proofs.SameWinner.{winner-same}
+use Rattle.game_wins.specs.Judgement.{judged, lostAt}
+use Rattle.game_wins.specs.declared.Test.the-variants.{Sooner}
 use Rattle.comparer_rank_laws.specs.Levels.{level}
-use Rattle.comparer_rank_laws.specs.Rows.{rows, roundsAt}
-use Rattle.comparer_rank_laws.specs.Winner.{winner}
-use Rattle.comparer_rank_laws.proofs.Levels.{level-judges}
-use Rattle.comparer_rank_laws.proofs.Winners.{chosen-winner, winner-same}
-use Rattle.game_wins.specs.Judgement.{fewerAt, lostBefore}
-use Rattle.game_wins.specs.Wins.{winOf}
-use Rattle.game_wins.specs.declared.Win.the-variants.{By, Nobody}
-use Rattle.comparer_certify_laws.specs.Words.{withMark, markedRounds}
-use Rattle.comparer_certify_laws.specs.Marking.{markedAt, marked, markedAll, attackBy, ledFrom, stepped, passed, marking}
-use Rattle.comparer_certify_laws.proofs.Words.{Few, marked-fits, withMark-marked, marked-below, marked-is}
-use Rattle.comparer_certify_laws.proofs.Tables.{place-of-member, place-found, rising-once, table-positions, table-position, table-rounds, table-set}
-use Rattle.comparer_certify_laws.proofs.Marks.{also, alsoAll, also-has, rankOf, leads, Marks, marks-more, Done, done-here, done-still, led-lost, marks-fewer}
+use Rattle.comparer_rank_laws.specs.EntryRows.{rows}
+use Rattle.comparer_rank_laws.proofs.Levels.{chosen-winner, level-judges}
+use Rattle.comparer_rank_laws.proofs.RisingPlaces.{rising-once, place-found}
+use Rattle.comparer_rank_laws.proofs.EntryRows.{SixPartners, reached-six, rows-positions, rows-position, rows-rounds}
+use Rattle.comparer_certify_laws.specs.MarkedRounds.{withMark, markedRounds}
+use Rattle.comparer_certify_laws.specs.Marking.{roundsOf, markedAt, marked, markedAll, lostBefore, attackBy, ledFrom, stepped, passed, marking}
+use Rattle.comparer_certify_laws.proofs.MarkedRounds.{Few, marked-fits, withMark-marked, marked-below, marked-is}
+use Rattle.comparer_certify_laws.proofs.ChangedRounds.{changed-one}
+use Rattle.comparer_certify_laws.proofs.MarkedPositions.{also, alsoAll, also-has, rankOf, leads, Marks, marks-more, Done, done-here, done-still, led-lost, marks-fewer}
 
 -- ── Bytes: the table after one entry, and after one pass ──
 
--- an attack that was found
-found-is : (o : Option Attack) (a : Attack) → winOf o ≡ By a → o ≡ some a
-found-is none a e = let z : _≡_ {A = ℕ} 0 1 = cc in absurd (omega arith)
-found-is (some b) a e = cc
-
--- an attack of entry i that was found, or none
+-- what the attack of entry i leads to, where it is found
 module _ (g : Rules) (t : Task) (n k i : ℕ) (table : List ℕ) where
-  abbrev attack : Option Attack
-  attack = attackBy g t n table k (positionAt table i)
+  abbrev entry : Position
+  entry = positionAt (ofTable n) table i
 
-  pub led-by : (a : Attack) → winOf attack ≡ By a → ledFrom g t n k i table ≡ markedAll n (attackLeads t (positionAt table i) (some a)) table
+  pub led-by : {a : Attack} → attackBy g t n table k entry ≡ some a
+      → ledFrom g t n k i table ≡ markedAll n (attackLeads t entry (some a)) table
   unfolding ledFrom
-  led-by a e = rw (found-is attack a e)
+  led-by e = rw e
 
-  -- its edge is one of its side
-  pub led-exists : (a : Attack) → winOf attack ≡ By a → a .edge < modelOf t (a .side) .«edge_count»
-  unfolding attackBy winner
-  led-exists a e = by (eqb k 0) (found-is attack a e)
-    where
-      p : Position
-      p = positionAt table i
-
-      by : (b : Bool) → cond b none (winner g t (lostBefore table n (k * 2)) p) ≡ some a → a .edge < modelOf t (a .side) .«edge_count»
-      by true d = let z : _≡_ {A = ℕ} 0 1 = cc in absurd (omega arith)
-      by false d = attack-edge-exists g t p a (first-found _ (attacks g t p) a d .0)
-
-  pub led-nowhere : winOf attack ≡ Nobody → ledFrom g t n k i table ≡ table
+  pub led-nowhere : attackBy g t n table k entry ≡ none → ledFrom g t n k i table ≡ table
   unfolding ledFrom attackLeads markedAll
-  led-nowhere e = rw (is attack e)
-    where
-      is : (o : Option Attack) → winOf o ≡ Nobody → o ≡ none
-      is none e = refl
-      is (some b) e = let z : _≡_ {A = ℕ} 0 1 = cc in absurd (omega arith)
+  led-nowhere e = rw e
 
 module _ (g : Rules) (t : Task) (n k i : ℕ) (first table : List ℕ) (e : table ≡ passed g t n k i first) where
-  pub pass-taken : roundsAt table i ≡ k * 2 + 1 → ledFrom g t n k i table ≡ passed g t n k (i + 1) first
+  pub pass-taken : roundsOf table i ≡ k * 2 + 1 → ledFrom g t n k i table ≡ passed g t n k (i + 1) first
   unfolding passed
-  pass-taken h = rw (add-one, ← e, eq-eqb (roundsAt table i) (k * 2 + 1) h)
+  pass-taken h = rw (add-one, ← e, eq-eqb (roundsOf table i) (k * 2 + 1) h)
 
-  pub pass-left : (roundsAt table i ≡ k * 2 + 1 → ⊥) → table ≡ passed g t n k (i + 1) first
+  pub pass-left : (roundsOf table i ≡ k * 2 + 1 → ⊥) → table ≡ passed g t n k (i + 1) first
   unfolding passed
-  pass-left h = rw (add-one, ← e, ne-eqb (roundsAt table i) (k * 2 + 1) h)
+  pass-left h = rw (add-one, ← e, ne-eqb (roundsOf table i) (k * 2 + 1) h)
 
 -- from k rounds down: k, and then from k - 1 down
 pub marking-step : (g : Rules) (t : Task) (n k : ℕ) (table : List ℕ) → 0 < k
@@ -112,8 +92,8 @@ module _ {t : Task} (valid : Valid 6 t) (g : Rules) (few : length (reached g t) 
   abbrev z : Position
   z = unmatched 6 0 0
 
-  pub six : (p : Position) → p ∈ reached g t → length (p .partners) ≡ 6
-  six p m = legal-facts 6 t p (reached-legal valid g p m) .long
+  six : SixPartners (reached g t)
+  six = reached-six g valid
 
   pub few-rounds : (p : Position) → Few (rankOf valid g p)
   few-rounds p k e = omega (arith, rank-some g t N p k e .1)
@@ -130,23 +110,23 @@ module _ {t : Task} (valid : Valid 6 t) (g : Rules) (few : length (reached g t) 
 
   -- ── Entries ──
 
-  pub marked-positions : (M : Position → Bool) → positions N (markedTable M) ≡ reached g t
-  marked-positions M = table-positions l rest six (wordOf M)
+  pub marked-positions : (M : Position → Bool) → positionsIn (ofTable N) (markedTable M) ≡ reached g t
+  marked-positions M = rows-positions (wordOf M) l rest six
 
   module _ (M : Position → Bool) (i : ℕ) (b : i < N) where
-    pub marked-position : positionAt (markedTable M) i ≡ getD (reached g t) i z
-    marked-position = table-position l rest six (wordOf M) i z b
+    pub marked-position : positionAt (ofTable N) (markedTable M) i ≡ getD (reached g t) i z
+    marked-position = rows-position (wordOf M) l rest six i z b
 
-    pub marked-rounds : roundsAt (markedTable M) i ≡ wordOf M (getD (reached g t) i z)
-    marked-rounds = table-rounds l rest six (wordOf M) i z b (word-fits M (getD l i z))
+    pub marked-rounds : roundsOf (markedTable M) i ≡ wordOf M (getD (reached g t) i z)
+    marked-rounds = rows-rounds (wordOf M) l rest six i z b (word-fits M (getD l i z))
 
   -- where a look-up finds a position that was reached, and the rounds there
   record Located (M : Position → Bool) (q : Position) : Type 0 where
     place : ℕ
     within : place < N
     is : getD (reached g t) place z ≡ q
-    found : placeOf q (positions N (markedTable M)) ≡ At place
-    holds : roundsAt (markedTable M) place ≡ wordOf M q
+    found : placeOf q (positionsIn (ofTable N) (markedTable M)) ≡ At place
+    holds : roundsOf (markedTable M) place ≡ wordOf M q
 
   located : (M : Position → Bool) {q : Position} → q ∈ reached g t → Located M q
   located M {q} m =
@@ -172,12 +152,12 @@ module _ {t : Task} (valid : Valid 6 t) (g : Rules) (few : length (reached g t) 
       at : Located M q → marked N q (markedTable M) ≡ markedTable (also q M)
       at s =
           ap (markedAt (markedTable M)) (s .found)
-          ∙ ap (λ (n : ℕ). putWord (markedTable M) (s .place * 12 + 8) (withMark n)) (s .holds)
-          ∙ ap (putWord (markedTable M) (s .place * 12 + 8))
+          ∙ ap (λ (n : ℕ). putWord (markedTable M) (s .place * entryWidth + entryRounds) (withMark n)) (s .holds)
+          ∙ ap (putWord (markedTable M) (s .place * entryWidth + entryRounds))
           (withMark-marked (rankOf valid g q) (M q)
           ∙ ap (markedRounds (rankOf valid g q)) (sym (also-has M q))
           ∙ ap (wordOf (also q M)) (sym (s .is)))
-          ∙ table-set l rest six (wordOf M) (wordOf (also q M)) (s .place) z (s .within)
+          ∙ changed-one l rest six (wordOf M) (wordOf (also q M)) (s .place) z (s .within)
           (λ j b d.
           ap (markedRounds (rankOf valid g (getD l j z)))
           (other (getD l j z) (λ e. d (rising-once l z (reached-rising valid g) j (s .place) b (s .within) (e ∙ sym (s .is))))))
@@ -194,10 +174,10 @@ module _ {t : Task} (valid : Valid 6 t) (g : Rules) (few : length (reached g t) 
 
   judges : (M : Position → Bool) (k : ℕ) (q : Position) → k ≤ N → q ∈ reached g t
       → lostBefore (markedTable M) N (suc k * 2) q ≡ lostWithin g t k q
-  unfolding lostBefore level
+  unfolding judged level
   judges M k q b m =
       let s = located M m in
-      ap (fewerAt (markedTable M) (suc k * 2)) (s .found)
+      ap (lostAt (markedTable M) (ofTable N) (Sooner (suc k * 2))) (s .found)
       ∙ ap (λ (n : ℕ). ltb n (suc k * 2)) (s .holds)
       ∙ marked-below (rankOf valid g q) (M q) k (omega arith)
       ∙ level-judges g t k N q b (omega arith)
@@ -220,8 +200,9 @@ module _ {t : Task} (valid : Valid 6 t) (g : Rules) (few : length (reached g t) 
   unfolding ledFrom lossStep
   led-from M i k b e h =
       let p = getD l i z in
-      ap (λ (q : Position). markedAll N (attackLeads t q (attackBy g t N (markedTable M) k q)) (markedTable M)) (marked-position M i b)
-      ∙ ap (λ (o : Option Attack). markedAll N (attackLeads t p o) (markedTable M))
+      let table = markedTable M in
+      ap (λ (q : Position). markedAll N (attackLeads t q (attackBy g t N table k q)) table) (marked-position M i b)
+      ∙ ap (λ (o : Option Attack). markedAll N (attackLeads t p o) table)
       (attack-found M p k (at-member l i z b) e ∙ ap (attackOf g t p) (sym e))
       ∙ marked-all (leads valid g p) M h
 
@@ -241,10 +222,10 @@ module _ {t : Task} (valid : Valid 6 t) (g : Rules) (few : length (reached g t) 
         abbrev p : Position
         p = getD l i z
 
-        test : (eqb (roundsAt (markedTable M) i) (suc k * 2 + 1) ≡ true) ↔ ((rankOf valid g p ≡ some (suc k)) × (M p ≡ true))
+        test : (eqb (roundsOf (markedTable M) i) (suc k * 2 + 1) ≡ true) ↔ ((rankOf valid g p ≡ some (suc k)) × (M p ≡ true))
         test = rw (marked-rounds M i b) (marked-is (rankOf valid g p) (M p) (suc k) (omega arith))
 
-        entry-step : (c : Bool) → eqb (roundsAt (markedTable M) i) (suc k * 2 + 1) ≡ c
+        entry-step : (c : Bool) → eqb (roundsOf (markedTable M) i) (suc k * 2 + 1) ≡ c
             → Passed (suc i) (stepped g t N (suc k) i (markedTable M))
         entry-step true e =
             let (r, h) = test .0 e in
@@ -292,7 +273,7 @@ module _ {t : Task} (valid : Valid 6 t) (g : Rules) (few : length (reached g t) 
           marks =
               marks-fewer valid g n lost k (s .M) (s .marks)
               (λ p m.
-              let (i, c, e) = place-of-member z m in
+              let (i, c, e) = member-place z m in
               subst (Done valid g (suc k) (s .M)) e (s .done i c));
         }
 

@@ -1,4 +1,4 @@
 -- What is done to a table, and read from it, where a certificate is written.
-pub mod Words
+pub mod MarkedRounds
 pub mod Marking
-pub mod Records
+pub mod EntryRecords

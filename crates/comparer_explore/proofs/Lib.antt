@@ -1,2 +1,3 @@
+-- What several proofs show of answers.
 mod Visited
 mod Explores

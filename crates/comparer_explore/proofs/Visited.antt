@@ -2,7 +2,7 @@
 use Prim.Native.Nat.{ℕ}
 use mathlib.Core.List.{List}
 use Rattle.comparer_explore_laws.proofs.Growth.{completes-as, overflows-as}
-use Rattle.comparer_explore.specs.Answers.{Visited}
+use Rattle.comparer_explore.specs.ExploreAnswers.{Visited}
 use Rattle.comparer_explore.specs.declared.Explored.{Explored}
 use Rattle.comparer_explore.specs.declared.Explored.the-variants.{Count, TooMany}
 

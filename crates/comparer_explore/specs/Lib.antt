@@ -1,2 +1,2 @@
 -- What the functions on the table answer.
-pub mod Answers
+pub mod ExploreAnswers

@@ -1,19 +1,27 @@
 // The set of keys in the table: a chained hash set with a bucket for each entry. An entry's three words are a key, its link, and
 // the head of the bucket of the same number; a link or head is an index plus one, or 0 for none.
-use table::ENTRY;
+use listing::words::put_word;
+use listing::words::word_at;
+use outcome::layout::ENTRY;
 ghost use Prim.Native.Nat.{_+_, _*_, _≤_, _<_};
 ghost use mathlib.Core.Path.{_≡_};
 ghost use Rattle.outcome.specs.Compare.{capacity};
-ghost use Rattle.comparer_explore_laws.specs.Stored.{bucketOf, keyLimit, withEntry, Stored, Walkable, Walked};
-ghost use Rattle.comparer_explore.specs.Answers.{Inserts};
+ghost use Rattle.table_laws.specs.Keys.{keyLimit};
+ghost use Rattle.comparer_explore_laws.specs.Stored.{bucketOf, withEntry, Stored, Walkable, Walked};
+ghost use Rattle.comparer_explore.specs.ExploreAnswers.{Inserts};
 
 // Where an entry's link and the head of its bucket stand in it.
 const LINK: usize = 4;
 
 const HEAD: usize = 8;
 
-// As many buckets are used at most as positions have keys.
-const KEYS: usize = 67108864;
+// As many buckets are used at most as legal positions have keys.
+const MOST_BUCKETS: usize = 67108864;
+
+// A hash is of 32 bits, by the factor of a multiplicative hash: 2 to the 32nd divided by the golden ratio.
+const HASH_LIMIT: u64 = 4294967296;
+
+const HASH_FACTOR: u64 = 2654435769;
 
 pub enum Inserted {
     Present,
@@ -27,9 +35,13 @@ fn bucket(key: u32, buckets: usize) -> usize
     requires { ⌜ 0 < buckets ⌝ }
     ensures { λ r. ⌜ (r ≡ bucketOf buckets key) × (r < buckets) ⌝ }
 {
-    let used = if buckets < KEYS { buckets } else { KEYS };
-    let hash = (key as u64) * 2654435769 % 4294967296;
-    (hash * (used as u64) / 4294967296) as usize
+    let used = if buckets < MOST_BUCKETS {
+        buckets
+    } else {
+        MOST_BUCKETS
+    };
+    let hash = (key as u64) * HASH_FACTOR % HASH_LIMIT;
+    (hash * (used as u64) / HASH_LIMIT) as usize
 }
 
 // The chain from a head has the key.
@@ -40,10 +52,10 @@ fn walk(table: &[u8], key: u32, head: u32) -> bool
     let mut at = head as usize;
     while 0 < at {
         let i = at - 1;
-        if table::word_at(table, i * ENTRY) == key {
+        if word_at(table, i * ENTRY) == key {
             return true;
         }
-        at = table::word_at(table, i * ENTRY + LINK) as usize;
+        at = word_at(table, i * ENTRY + LINK) as usize;
     }
     false
 }
@@ -53,10 +65,10 @@ fn put_entry(table: &mut [u8], n: usize, key: u32, b: usize)
     requires { ⌜ (n < capacity (now table)) × (n ≤ keyLimit) × (b < capacity (now table)) ⌝ }
     ensures { λ _. ⌜ now (table .exit) ≡ withEntry (now (table .entry)) n key b ⌝ }
 {
-    let head = table::word_at(table, b * ENTRY + HEAD);
-    table::put_word(table, n * ENTRY, key);
-    table::put_word(table, n * ENTRY + LINK, head);
-    table::put_word(table, b * ENTRY + HEAD, (n + 1) as u32);
+    let head = word_at(table, b * ENTRY + HEAD);
+    put_word(table, n * ENTRY, key);
+    put_word(table, n * ENTRY + LINK, head);
+    put_word(table, b * ENTRY + HEAD, (n + 1) as u32);
 }
 
 // Inserts a key into the set in the first n entries.
@@ -69,7 +81,7 @@ pub fn insert(table: &mut [u8], n: usize, key: u32) -> Inserted
         return Inserted::Full;
     }
     let b = bucket(key, entries);
-    if walk(table, key, table::word_at(table, b * ENTRY + HEAD)) {
+    if walk(table, key, word_at(table, b * ENTRY + HEAD)) {
         return Inserted::Present;
     }
     if n < entries {

@@ -13,30 +13,48 @@ use Rattle.fra.specs.Lists.{_∈_}
 use Rattle.fra.specs.Rules.{Rules}
 use Rattle.fra.specs.Reach.{begin, onward, successors, Reached, reached}
 use Rattle.fra.specs.Position.{legal}
+use Rattle.fra.specs.Valid.{Valid}
 use Rattle.fra.specs.declared.Position.{Position}
 use Rattle.fra.specs.declared.Task.{Task}
+use Rattle.fra.specs.declared.Side.the-variants.{Left, Right}
 use Rattle.fra_laws.proofs.Legal.{legal-facts}
 use Rattle.fra_laws.proofs.Reached.{reached-exactly, reached-legal}
 use Rattle.outcome.specs.Compare.{capacity}
+use Rattle.game_index.specs.Reading.{taskIn, rulesIn}
+use Rattle.game_index.specs.Writing.{Index}
+use Rattle.game_index.proofs.Reading.{sized-in}
 use Rattle.table_laws.specs.Keys.{keyOf, positionFrom, Small}
 use Rattle.table_laws.specs.Sorted.{Permuted}
 use Rattle.table_laws.specs.Table.{keyAt, keys}
 use Rattle.table_laws.proofs.Keys.{position-of-key, key-order, legal-small}
-use Rattle.table_laws.proofs.Tables.{keys-length}
+use Rattle.table_laws.proofs.KeyColumn.{keys-length}
 use Rattle.comparer_explore_laws.specs.Stored.{Holds}
 use Rattle.comparer_explore_laws.specs.Growth.{Completes, Overflows}
-use Rattle.comparer_explore_laws.specs.Exploring.{ReachedKey, SuccessorKey, Explorable, Exploring}
+use Rattle.comparer_explore_laws.specs.Exploring.{ReachedKey, SuccessorKey, Exploring}
 use Rattle.comparer_explore_laws.proofs.Explored.{names-unique, explored-few, explored-members, explored-length}
 use Rattle.comparer_explore_laws.proofs.Stored.{holds-member, member-holds, keys-unique}
 use Rattle.comparer_explore_laws.proofs.Growth.{grown-all, holds-kept}
 use Rattle.comparer_explore_laws.proofs.Permuted.{unique-permuted}
 
-module _ {t : Task} (task : Explorable t) (g : Rules) where
-  is-legal : (p : Position) → Reached g t p → legal 6 t p ≡ true
-  is-legal p h = reached-legal (task .valid) g p (reached-exactly (task .valid) g p .1 h)
+module _ {b : List ℕ} (index : Index b) where
+  abbrev g : Rules
+  g = rulesIn b
 
+  abbrev t : Task
+  t = taskIn b
+
+  valid : Valid 6 t
+  valid = index .indexable .valid
+
+  is-legal : (p : Position) → Reached g t p → legal 6 t p ≡ true
+  is-legal p h = reached-legal valid g p (reached-exactly valid g p .1 h)
+
+  -- a side of an index has no more states than fit a digit
   is-small : (p : Position) → Reached g t p → Small p
-  is-small p h = legal-small 6 t p (task .valid) (omega arith) (task .left-states) (task .right-states) (is-legal p h)
+  unfolding taskIn
+  is-small p h =
+      legal-small 6 t p valid (omega arith) (omega (arith, valid .left .state-places, sized-in b Left .states))
+      (omega (arith, valid .right .state-places, sized-in b Right .states)) (is-legal p h)
 
   six : (p : Position) → Reached g t p → length (p .partners) ≡ 6
   six p h = legal-facts 6 t p (is-legal p h) .long
@@ -89,7 +107,8 @@ module _ {t : Task} (task : Explorable t) (g : Rules) where
         expanded = λ i h. expanded i h (ℕ-discrete i done);
       }
     where
-      expanded : (i : ℕ) → i < done + 1 → Dec (i ≡ done) → (k : ℕ) → SuccessorKey g t (positionFrom (keyAt new i)) k → Holds m new k
+      expanded : (i : ℕ) → i < done + 1 → Dec (i ≡ done) → (k : ℕ) → SuccessorKey g t (positionFrom (keyAt new i)) k
+          → Holds m new k
       expanded i h (yes d) k w =
           c .complete k (subst (λ j. SuccessorKey g t (positionFrom j) k) (ap (keyAt new) d ∙ c .grows .kept done l) w)
       expanded i h (no d) k w =
@@ -117,13 +136,13 @@ module _ {t : Task} (task : Explorable t) (g : Rules) where
     pub exploring-count : n ≡ length (reached g t)
     exploring-count =
         sym (keys-length n table)
-        ∙ explored-length (task .valid) g keyOf (keys n table) (keys-unique (e .stored)) sound apart starts leads
+        ∙ explored-length valid g keyOf (keys n table) (keys-unique (e .stored)) sound apart starts leads
 
     pub exploring-keys : Permuted (keys n table) (map keyOf (reached g t))
     exploring-keys =
-        let same = explored-members (task .valid) g keyOf (keys n table) (keys-unique (e .stored)) sound apart starts leads in
+        let same = explored-members valid g keyOf (keys n table) (keys-unique (e .stored)) sound apart starts leads in
         unique-permuted (keys n table) (map keyOf (reached g t)) (keys-unique (e .stored))
-        (names-unique (task .valid) g keyOf apart)
+        (names-unique valid g keyOf apart)
         (λ k. same k .0) (λ k. same k .1)
 
   -- a reached position has no room
@@ -133,7 +152,7 @@ module _ {t : Task} (task : Explorable t) (g : Rules) where
       → capacity old < length (reached g t)
   overflows-reached {old = old} {new} o before wanted =
       rw (keys-length c new) at
-      (explored-few (task .valid) g keyOf (o .key ∷ keys c new)
+      (explored-few valid g keyOf (o .key ∷ keys c new)
       (λ m. o .missing (member-holds c new (o .key) m), keys-unique (o .grows .stored))
       (λ k m.
       ⊎-elim (λ (d : k ≡ o .key). subst (ReachedKey g t) (sym d) (wanted (o .key) (o .wanted)))

@@ -5,6 +5,7 @@ use mathlib.Core.List.{List}
 use native.Mathlib.Omega.{arith}
 use native.Mathlib.Decide.{ℕ-discrete, decLt}
 use Rattle.outcome.specs.Compare.{capacity}
+use Rattle.listing.specs.Widths.{entryWidth}
 use Rattle.table_laws.specs.Table.{keyAt}
 use Rattle.comparer_explore_laws.specs.Stored.{Stored, Holds}
 use Rattle.comparer_explore_laws.specs.Growth.{Grows, Completes, Overflows, Among, Passed}
@@ -114,7 +115,7 @@ module _ (first end : ℕ) (Wanted : ℕ → ℕ → Type 0) where
       → Overflows (Among first end Wanted) n a c
   unfolding capacity
   passed-overflows {m = m} {i} {a} {b} {c} h f o =
-      let same : capacity b ≡ capacity a = ap (λ n. n / 12) (f .visited .grows .long) in
+      let same : capacity b ≡ capacity a = ap (λ n. n / entryWidth) (f .visited .grows .long) in
       record {
         grows =
             grows-then (among-more i end (omega arith)) (among-last i end (f .from) h) (f .visited .grows)

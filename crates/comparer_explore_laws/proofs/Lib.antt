@@ -1,8 +1,9 @@
-pub mod Chains
-pub mod Explored
+-- Laws of the set of keys, of how it grows by the keys of successors, and of when exploring has ended.
+pub mod HashChains
 pub mod Growth
 pub mod Stored
-pub mod Keys
-pub mod Pairs
+pub mod RoundKeys
+pub mod EdgeKeys
 pub mod Permuted
+pub mod Explored
 pub mod Exploring

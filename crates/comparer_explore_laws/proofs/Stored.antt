@@ -1,11 +1,11 @@
 -- The set of keys in the lent table: it starts empty, a walk along a chain says whether it has a key, and it takes one key more.
 -- Assumes nothing.
-use Prim.Native.Nat.{ℕ, zero, suc, _+_, _*_, _%_, _^_, _≤_, _<_, min}
+use Prim.Native.Nat.{ℕ, zero, suc, _+_, _*_, _^_, _≤_, _<_, min}
 use mathlib.Core.Path.{_≡_, refl, sym, _∙_, ap, subst}
 use mathlib.Core.Logic.{_⊎_, inl, inr}
 use mathlib.Core.Bool.{Bool, true, false, true≢false, false≢true}
 use mathlib.Core.List.{List, map, Memᴰ·cast, Memᴰ·map, Memᴰ·of-map}
-use native.Mathlib.Nat.{mul-le-mul-right}
+use native.Mathlib.Nat.{suc-mul, mul-le-mul-right}
 use native.Mathlib.Omega.{arith}
 use native.Mathlib.Decide.{ℕ-discrete, decLt}
 use lib.ListN.{getD, replicate}
@@ -15,20 +15,24 @@ use Rattle.fra_laws.proofs.Lists.{count-intro, count-elim}
 use Rattle.fra_laws.proofs.Lengths.{count-length, unique-length}
 use Rattle.outcome.specs.Bytes.{wordAt, cleared}
 use Rattle.outcome.specs.Compare.{capacity}
+use Rattle.listing.specs.Widths.{wordWidth, entryWidth}
+use Rattle.listing.proofs.WordLaws.{read-word, read-other-word}
+use Rattle.table_laws.specs.Keys.{keyLimit}
 use Rattle.table_laws.specs.Table.{keyAt, keys}
-use Rattle.table_laws.proofs.Words.{read-word, read-other-word}
-use Rattle.table_laws.proofs.Tables.{keys-length}
-use Rattle.comparer_explore_laws.specs.Chains.{Chained, Adds}
-use Rattle.comparer_explore_laws.specs.Stored.{linkAt, headAt, entriesOf, bucketOf, keyLimit, withEntry, Stored, Holds, Walkable, Walked}
+use Rattle.table_laws.proofs.KeyColumn.{keys-length}
+use Rattle.comparer_explore_laws.specs.HashChains.{Chained, Adds}
+use Rattle.comparer_explore_laws.specs.Stored.{linkPlace, linkAt, headPlace, headAt, entriesOf, withEntry, Stored, Holds}
+use Rattle.comparer_explore_laws.specs.Stored.{mostBuckets, hashLimit, hashOf, bucketOf, Walkable, Walked}
 use Rattle.comparer_explore_laws.specs.Growth.{Grows, Completes, Overflows}
 use Rattle.comparer_explore_laws.proofs.Growth.{grows-none}
-use Rattle.comparer_explore_laws.proofs.Chains.{chained-adds, chained-none, chained-missing}
+use Rattle.comparer_explore_laws.proofs.HashChains.{chained-adds, chained-none, chained-missing}
 
 -- ── The keys ──
 
 pub holds-member : (n : ℕ) (table : List ℕ) (k : ℕ) → Holds n table k → k ∈ keys n table
 unfolding keys
-holds-member n table k h = Memᴰ·cast (sym (h .2)) (Memᴰ·map (keyAt table) (count-intro 0 n (h .0) (omega arith) (omega (arith, h .1))))
+holds-member n table k h =
+    Memᴰ·cast (sym (h .2)) (Memᴰ·map (keyAt table) (count-intro 0 n (h .0) (omega arith) (omega (arith, h .1))))
 
 pub member-holds : (n : ℕ) (table : List ℕ) (k : ℕ) → k ∈ keys n table → Holds n table k
 unfolding keys
@@ -87,12 +91,15 @@ stored-none table =
 
 -- ── The chain of a bucket ──
 
+-- a hash is below its limit, scaled too
+pub hash-scaled : (k m : ℕ) → hashOf k * m + m ≤ hashLimit * m
+hash-scaled k m =
+    let h : suc (hashOf k) ≤ hashLimit = omega arith in
+    rw suc-mul at (mul-le-mul-right m h)
+
 pub bucket-below : (buckets k : ℕ) → 0 < buckets → bucketOf buckets k < buckets
 unfolding bucketOf
-bucket-below buckets k h =
-    let hash : k * 2654435769 % 4294967296 ≤ 4294967295 = omega arith in
-    let scaled = mul-le-mul-right (min buckets 67108864) hash in
-    omega arith
+bucket-below buckets k h = let scaled = hash-scaled k (min buckets mostBuckets) in omega arith
 
 -- the chain of bucket b is walked from its head
 module _ {n b head : ℕ} {table : List ℕ} (s : Stored n table) (below : b < capacity table) (first : head ≡ headAt table b) where
@@ -111,120 +118,123 @@ module _ {n b head : ℕ} {table : List ℕ} (s : Stored n table) (below : b < c
   pub walk-misses : {k : ℕ} (r : Bool) → b ≡ bucketOf (capacity table) k → Walked table k head r → r ≡ false → Holds n table k → ⊥
   walk-misses true bucket w e h = true≢false e
   walk-misses {k} false bucket w e h =
-      chained-missing (s .chained) k (subst (λ x. Walked table k x false) (first ∙ ap (headAt table) bucket) w) (h .0) (h .1) (h .2)
+      chained-missing (s .chained) k (subst (λ x. Walked table k x false) (first ∙ ap (headAt table) bucket) w) (h .0) (h .1)
+      (h .2)
 
 -- ── One entry more ──
 
 -- two words that share no byte
 abbrev Beside : ℕ → ℕ → Type 0
-Beside x y = (x + 4 ≤ y) ⊎ (y + 4 ≤ x)
+Beside x y = (x + wordWidth ≤ y) ⊎ (y + wordWidth ≤ x)
 
-beside : (x y : ℕ) → (x < y → x + 4 ≤ y) → (y ≤ x → y + 4 ≤ x) → Beside x y
+beside : (x y : ℕ) → (x < y → x + wordWidth ≤ y) → (y ≤ x → y + wordWidth ≤ x) → Beside x y
 beside x y p q = elim (decLt x y) [ yes h ↦ inl (p h) | no h ↦ inr (q (omega arith)) ]
 
 module _ (table : List ℕ) (n k b : ℕ) where
-  with-other : (x : ℕ) → Beside x (n * 12) → Beside x (n * 12 + 4) → Beside x (b * 12 + 8)
+  with-other : (x : ℕ) → Beside x (n * entryWidth) → Beside x (linkPlace n) → Beside x (headPlace b)
       → wordAt (withEntry table n k b) x ≡ wordAt table x
   with-other x e f g =
-      read-other-word _ (b * 12 + 8) (suc n) x g ∙ read-other-word _ (n * 12 + 4) (headAt table b) x f
-      ∙ read-other-word table (n * 12) k x e
+      read-other-word _ (headPlace b) (suc n) x g ∙ read-other-word _ (linkPlace n) (headAt table b) x f
+      ∙ read-other-word table (n * entryWidth) k x e
 
 module _ (table : List ℕ) (n k b : ℕ) (room : n < capacity table) (bucket : b < capacity table) where
   with-key : k < 2 ^ 32 → keyAt (withEntry table n k b) n ≡ k
   unfolding capacity
   with-key small =
-      read-other-word _ (b * 12 + 8) (suc n) (n * 12) (beside _ _ (λ a. omega arith) (λ a. omega arith))
-      ∙ read-other-word _ (n * 12 + 4) (headAt table b) (n * 12) (inl (omega arith))
-      ∙ read-word table (n * 12) k (omega arith) small
+      read-other-word _ (headPlace b) (suc n) (n * entryWidth) (beside _ _ (λ a. omega arith) (λ a. omega arith))
+      ∙ read-other-word _ (linkPlace n) (headAt table b) (n * entryWidth) (inl (omega arith))
+      ∙ read-word table (n * entryWidth) k (omega arith) small
 
   with-link : headAt table b < 2 ^ 32 → linkAt (withEntry table n k b) n ≡ headAt table b
   unfolding capacity
   with-link small =
-      read-other-word _ (b * 12 + 8) (suc n) (n * 12 + 4) (beside _ _ (λ a. omega arith) (λ a. omega arith))
-      ∙ read-word _ (n * 12 + 4) (headAt table b) (rw length-sets (omega arith)) small
+      read-other-word _ (headPlace b) (suc n) (linkPlace n) (beside _ _ (λ a. omega arith) (λ a. omega arith))
+      ∙ read-word _ (linkPlace n) (headAt table b) (rw length-sets (omega arith)) small
 
   with-head : suc n < 2 ^ 32 → headAt (withEntry table n k b) b ≡ suc n
   unfolding capacity
-  with-head small = read-word _ (b * 12 + 8) (suc n) (simp length-sets (omega arith)) small
+  with-head small = read-word _ (headPlace b) (suc n) (simp length-sets (omega arith)) small
 
 -- a key that is not held, where an entry is left
-module _ {n k : ℕ} {table : List ℕ} (s : Stored n table) (room : n < capacity table) (missing : Holds n table k → ⊥) (small : k < keyLimit) where
-  bucket : ℕ
-  bucket = bucketOf (capacity table) k
+module _ {n k : ℕ} {table : List ℕ} (s : Stored n table) (room : n < capacity table) (missing : Holds n table k → ⊥)
+    (small : k < keyLimit)
+  where
+    bucket : ℕ
+    bucket = bucketOf (capacity table) k
 
-  adds : Adds (capacity table) (bucketOf (capacity table)) n k (entriesOf table) (entriesOf (withEntry table n k bucket))
-  unfolding bucket
-  adds =
-      let below : bucket < capacity table = bucket-below (capacity table) k (omega arith) in
-      let first = s .chained .heads bucket below in
-      let few = stored-few s in
-      record {
-        key = with-key table n k bucket room below (omega arith);
-        link = with-link table n k bucket room below (omega arith);
-        head = with-head table n k bucket room below (omega arith);
-        other-keys =
-            λ i l.
-            with-other table n k bucket (i * 12) (inl (omega arith)) (inl (omega arith))
-            (beside _ _ (λ a. omega arith) (λ a. omega arith));
-        other-links =
-            λ i l.
-            with-other table n k bucket (i * 12 + 4) (inl (omega arith)) (inl (omega arith))
-            (beside _ _ (λ a. omega arith) (λ a. omega arith));
-        other-heads =
-            λ i l d.
-            with-other table n k bucket (i * 12 + 8) (beside _ _ (λ a. omega arith) (λ a. omega arith))
-            (beside _ _ (λ a. omega arith) (λ a. omega arith)) (beside _ _ (λ a. omega arith) (λ a. omega arith));
-      }
+    adds : Adds (capacity table) (bucketOf (capacity table)) n k (entriesOf table) (entriesOf (withEntry table n k bucket))
+    unfolding bucket
+    adds =
+        let below : bucket < capacity table = bucket-below (capacity table) k (omega arith) in
+        let first = s .chained .heads bucket below in
+        let few = stored-few s in
+        record {
+          key = with-key table n k bucket room below (omega arith);
+          link = with-link table n k bucket room below (omega arith);
+          head = with-head table n k bucket room below (omega arith);
+          other-keys =
+              λ i l.
+              with-other table n k bucket (i * entryWidth) (inl (omega arith)) (inl (omega arith))
+              (beside _ _ (λ a. omega arith) (λ a. omega arith));
+          other-links =
+              λ i l.
+              with-other table n k bucket (linkPlace i) (inl (omega arith)) (inl (omega arith))
+              (beside _ _ (λ a. omega arith) (λ a. omega arith));
+          other-heads =
+              λ i l d.
+              with-other table n k bucket (headPlace i) (beside _ _ (λ a. omega arith) (λ a. omega arith))
+              (beside _ _ (λ a. omega arith) (λ a. omega arith)) (beside _ _ (λ a. omega arith) (λ a. omega arith));
+        }
 
-  stored-adds : Stored (suc n) (withEntry table n k bucket)
-  stored-adds =
-      record {
-        room = subst (λ c. suc n ≤ c) (sym same) room;
-        chained =
-            subst (λ c. Chained c (bucketOf c) (suc n) (entriesOf new)) (sym same)
-            (chained-adds (λ x. bucket-below (capacity table) x (omega arith)) (s .chained) adds);
-        distinct = λ i j x y. distinct i j x y (ℕ-discrete i n) (ℕ-discrete j n);
-        small = λ i x. below i x (ℕ-discrete i n);
-      }
-    where
-      new : List ℕ
-      new = withEntry table n k bucket
+    stored-adds : Stored (suc n) (withEntry table n k bucket)
+    stored-adds =
+        record {
+          room = subst (λ c. suc n ≤ c) (sym same) room;
+          chained =
+              subst (λ c. Chained c (bucketOf c) (suc n) (entriesOf new)) (sym same)
+              (chained-adds (λ x. bucket-below (capacity table) x (omega arith)) (s .chained) adds);
+          distinct = λ i j x y. distinct i j x y (ℕ-discrete i n) (ℕ-discrete j n);
+          small = λ i x. below i x (ℕ-discrete i n);
+        }
+      where
+        new : List ℕ
+        new = withEntry table n k bucket
 
-      same : capacity new ≡ capacity table
-      same = unfold capacity in simp length-sets
+        same : capacity new ≡ capacity table
+        same = unfold capacity in simp length-sets
 
-      distinct : (i j : ℕ) → i < suc n → j < suc n → Dec (i ≡ n) → Dec (j ≡ n) → keyAt new i ≡ keyAt new j → i ≡ j
-      distinct i j x y (yes d) (yes e) h = d ∙ sym e
-      distinct i j x y (yes d) (no e) h =
-          absurd (missing (j, omega arith, sym (adds .other-keys j (omega arith)) ∙ sym h ∙ ap (keyAt new) d ∙ adds .key))
-      distinct i j x y (no d) (yes e) h =
-          absurd (missing (i, omega arith, sym (adds .other-keys i (omega arith)) ∙ h ∙ ap (keyAt new) e ∙ adds .key))
-      distinct i j x y (no d) (no e) h =
-          s .distinct i j (omega arith) (omega arith)
-          (sym (adds .other-keys i (omega arith)) ∙ h ∙ adds .other-keys j (omega arith))
+        distinct : (i j : ℕ) → i < suc n → j < suc n → Dec (i ≡ n) → Dec (j ≡ n) → keyAt new i ≡ keyAt new j → i ≡ j
+        distinct i j x y (yes d) (yes e) h = d ∙ sym e
+        distinct i j x y (yes d) (no e) h =
+            absurd (missing (j, omega arith, sym (adds .other-keys j (omega arith)) ∙ sym h ∙ ap (keyAt new) d ∙ adds .key))
+        distinct i j x y (no d) (yes e) h =
+            absurd (missing (i, omega arith, sym (adds .other-keys i (omega arith)) ∙ h ∙ ap (keyAt new) e ∙ adds .key))
+        distinct i j x y (no d) (no e) h =
+            s .distinct i j (omega arith) (omega arith)
+            (sym (adds .other-keys i (omega arith)) ∙ h ∙ adds .other-keys j (omega arith))
 
-      below : (i : ℕ) → i < suc n → Dec (i ≡ n) → keyAt new i < keyLimit
-      below i x (yes e) = rw (e, adds .key) small
-      below i x (no d) = rw (adds .other-keys i (omega arith)) (s .small i (omega arith))
+        below : (i : ℕ) → i < suc n → Dec (i ≡ n) → keyAt new i < keyLimit
+        below i x (yes e) = rw (e, adds .key) small
+        below i x (no d) = rw (adds .other-keys i (omega arith)) (s .small i (omega arith))
 
-  entered : Completes (λ x. x ≡ k) n table (suc n) (withEntry table n k bucket)
-  entered =
-      record {
-        grows =
-            record {
-              stored = stored-adds;
-              long = simp length-sets;
-              more = omega arith;
-              kept = adds .other-keys;
-              sound = λ i x y. let e : i ≡ n = omega arith in rw e (adds .key);
-            };
-        complete = λ x e. (n, omega arith, adds .key ∙ sym e);
-      }
+    entered : Completes (λ x. x ≡ k) n table (suc n) (withEntry table n k bucket)
+    entered =
+        record {
+          grows =
+              record {
+                stored = stored-adds;
+                long = simp length-sets;
+                more = omega arith;
+                kept = adds .other-keys;
+                sound = λ i x y. let e : i ≡ n = omega arith in rw e (adds .key);
+              };
+          complete = λ x e. (n, omega arith, adds .key ∙ sym e);
+        }
 
-  pub completes-adds : {b : ℕ} {new : List ℕ} → b ≡ bucketOf (capacity table) k → new ≡ withEntry table n k b
-      → Completes (λ x. x ≡ k) n table (suc n) new
-  unfolding bucket
-  completes-adds d e = subst (Completes (λ x. x ≡ k) n table (suc n)) (sym (e ∙ ap (withEntry table n k) d)) entered
+    pub completes-adds : {b : ℕ} {new : List ℕ} → b ≡ bucketOf (capacity table) k → new ≡ withEntry table n k b
+        → Completes (λ x. x ≡ k) n table (suc n) new
+    unfolding bucket
+    completes-adds d e = subst (Completes (λ x. x ≡ k) n table (suc n)) (sym (e ∙ ap (withEntry table n k) d)) entered
 
 -- ── What an insertion does ──
 

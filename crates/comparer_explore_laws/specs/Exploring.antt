@@ -6,7 +6,6 @@ use mathlib.Core.List.{List}
 use lib.ListN.{length}
 use Rattle.fra.specs.Lists.{_∈_}
 use Rattle.fra.specs.Rules.{Rules}
-use Rattle.fra.specs.Valid.{Valid}
 use Rattle.fra.specs.Reach.{successors, Reached}
 use Rattle.fra.specs.declared.Position.{Position}
 use Rattle.fra.specs.declared.Task.{Task}
@@ -21,12 +20,6 @@ ReachedKey g t k = (p : Position) × Reached g t p × (k ≡ keyOf p)
 -- the key of a successor
 abbrev pub SuccessorKey : Rules → Task → Position → ℕ → Type 0
 SuccessorKey g t p k = (q : Position) × (q ∈ successors g t p) × (k ≡ keyOf q)
-
--- a valid task, with 01's limits on its counts of states
-pub record Explorable (t : Task) : Type 0 where
-  pub valid : Valid 6 t
-  pub left-states : t .left .«state_count» ≤ 16
-  pub right-states : t .right .«state_count» ≤ 16
 
 -- n positions are found in a table of `size` bytes, and the first `done` of them are expanded: all their successors are found
 pub record Exploring (g : Rules) (t : Task) (size n done : ℕ) (table : List ℕ) : Type 0 where

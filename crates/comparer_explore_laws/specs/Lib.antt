@@ -1,6 +1,6 @@
 -- What the table holds while positions are explored in it.
-pub mod Chains
+pub mod HashChains
 pub mod Stored
 pub mod Growth
-pub mod Pairs
+pub mod EdgeKeys
 pub mod Exploring

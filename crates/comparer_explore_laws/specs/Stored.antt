@@ -6,30 +6,58 @@ use mathlib.Core.Bool.{Bool, true, false}
 use mathlib.Core.List.{List}
 use Rattle.outcome.specs.Bytes.{wordAt}
 use Rattle.outcome.specs.Compare.{capacity}
-use Rattle.table_laws.specs.Table.{putWord, keyAt}
-use Rattle.comparer_explore_laws.specs.Chains.{Entries, Visits, Falling, Chained}
+use Rattle.listing.specs.Widths.{entryWidth}
+use Rattle.listing.specs.Words.{putWord}
+use Rattle.table_laws.specs.Keys.{keyLimit}
+use Rattle.table_laws.specs.Table.{keyAt}
+use Rattle.comparer_explore_laws.specs.HashChains.{Entries, Visits, Falling, Chained}
+
+-- where the link and the head stand in an entry, after its key
+abbrev pub entryLink : ℕ
+entryLink = 4
+
+abbrev pub entryHead : ℕ
+entryHead = 8
+
+-- the link of entry i
+abbrev pub linkPlace : ℕ → ℕ
+linkPlace i = i * entryWidth + entryLink
 
 abbrev pub linkAt : List ℕ → ℕ → ℕ
-linkAt table i = wordAt table (i * 12 + 4)
+linkAt table i = wordAt table (linkPlace i)
+
+-- the head of bucket b
+abbrev pub headPlace : ℕ → ℕ
+headPlace b = b * entryWidth + entryHead
 
 abbrev pub headAt : List ℕ → ℕ → ℕ
-headAt table b = wordAt table (b * 12 + 8)
+headAt table b = wordAt table (headPlace b)
 
 abbrev pub entriesOf : List ℕ → Entries
 entriesOf table = record { key = keyAt table; link = linkAt table; head = headAt table }
 
--- the bucket of a key, by a multiplicative hash of 32 bits scaled to the buckets, of which no more than 2 ^ 26 are used: as many as
--- positions have keys
+-- no more buckets are used than legal positions have keys, 2 ^ 26
+abbrev pub mostBuckets : ℕ
+mostBuckets = 67108864
+
+-- a hash is of 32 bits: it is below 2 ^ 32
+abbrev pub hashLimit : ℕ
+hashLimit = 4294967296
+
+-- 2 ^ 32 divided by the golden ratio, the factor of a multiplicative hash
+abbrev pub hashFactor : ℕ
+hashFactor = 2654435769
+
+abbrev pub hashOf : ℕ → ℕ
+hashOf k = k * hashFactor % hashLimit
+
+-- the bucket of a key: its hash, scaled to the buckets
 unfoldable pub bucketOf : ℕ → ℕ → ℕ
-bucketOf buckets k = k * 2654435769 % 4294967296 * min buckets 67108864 / 4294967296
+bucketOf buckets k = hashOf k * min buckets mostBuckets / hashLimit
 
 -- the table with key k as entry n, before the chain of bucket b
 abbrev pub withEntry : List ℕ → ℕ → ℕ → ℕ → List ℕ
-withEntry table n k b = putWord (putWord (putWord table (n * 12) k) (n * 12 + 4) (headAt table b)) (b * 12 + 8) (suc n)
-
--- more than any key of a position
-abbrev pub keyLimit : ℕ
-keyLimit = 2147483648
+withEntry table n k b = putWord (putWord (putWord table (n * entryWidth) k) (linkPlace n) (headAt table b)) (headPlace b) (suc n)
 
 -- the first n entries hold distinct keys, in chains
 pub record Stored (n : ℕ) (table : List ℕ) : Type 0 where

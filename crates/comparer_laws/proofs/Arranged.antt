@@ -13,19 +13,19 @@ use Rattle.fra.specs.Valid.{Valid}
 use Rattle.fra.specs.declared.Position.{Position}
 use Rattle.fra.specs.declared.Task.{Task}
 use Rattle.fra_laws.proofs.Legal.{legal-facts}
-use Rattle.fra_laws.proofs.Count.{most-positions}
-use Rattle.fra_laws.proofs.Reached.{reached-rising, reached-legal, reached-unique}
-use Rattle.fra_laws.proofs.Records.{at-member, records-length}
+use Rattle.fra_laws.proofs.Reached.{reached-rising, reached-legal}
+use Rattle.fra_laws.proofs.FixedWidth.{at-member, records-length}
 use Rattle.outcome.specs.Bytes.{allOnes}
 use Rattle.outcome.specs.Certificate.{roundsOrNever, entry, entries}
-use Rattle.table_laws.specs.Keys.{keyOf, positionFrom, Small}
+use Rattle.listing.specs.Widths.{entryWidth}
+use Rattle.table_laws.specs.Keys.{stateBase, partnerBase, keyOf, positionFrom, Small}
 use Rattle.table_laws.specs.Sorted.{sorted, Ascending, Permuted}
 use Rattle.table_laws.specs.Table.{keys, withKeys, row, laidOut}
 use Rattle.table_laws.proofs.Keys.{key-bound, position-of-key, key-rises, legal-small}
 use Rattle.table_laws.proofs.Sorted.{ascending-sorted}
-use Rattle.table_laws.proofs.Tables.{keys-of-with}
-use Rattle.table_laws.proofs.Rows.{row-length}
-use Rattle.comparer_rank_laws.specs.Rows.{rows}
+use Rattle.table_laws.proofs.KeyColumn.{keys-of-with}
+use Rattle.table_laws.proofs.LayingOut.{row-length}
+use Rattle.comparer_rank_laws.specs.EntryRows.{rows}
 
 -- positions of six registers that fit a key
 abbrev Packed : List Position → Type 0
@@ -51,7 +51,7 @@ keys-laid-out (p ∷ l) packed =
     let same : positionFrom (keyOf p) ≡ p = rw n at (position-of-key p s) in
     ap₂ (λ (q : Position) (m : List ℕ). row q allOnes ++ m) same (keys-laid-out l (λ q m. packed q (List·Memᴰ·tail m)))
 
-module _ {t : Task} (valid : Valid 6 t) (left : t .left .«state_count» ≤ 16) (right : t .right .«state_count» ≤ 16) (g : Rules) where
+module _ {t : Task} (valid : Valid 6 t) (left : t .left .«state_count» ≤ stateBase) (right : t .right .«state_count» ≤ stateBase) (g : Rules) where
   packed : Packed (reached g t)
   packed p m =
       let h = reached-legal valid g p m in
@@ -69,10 +69,10 @@ module _ {t : Task} (valid : Valid 6 t) (left : t .left .«state_count» ≤ 16)
   key-small i b =
       let (p, m, e) = Memᴰ·of-map keyOf (reached g t) (at-member (map keyOf (reached g t)) i 0 b) in
       let (s, n) = packed p m in
-      let h : keyOf p < 256 * 8 ^ 6 = rw n at (key-bound p s) in
+      let h : keyOf p < stateBase * stateBase * partnerBase ^ 6 = rw n at (key-bound p s) in
       omega arith
 
-  keys-replaced : (table : List ℕ) → length (reached g t) * 12 ≤ length table
+  keys-replaced : (table : List ℕ) → length (reached g t) * entryWidth ≤ length table
       → keys (length (reached g t)) (withKeys (map keyOf (reached g t)) table) ≡ map keyOf (reached g t)
   keys-replaced table room =
       let long = length-map (reached g t) keyOf in
@@ -80,7 +80,7 @@ module _ {t : Task} (valid : Valid 6 t) (left : t .left .«state_count» ≤ 16)
       ∙ keys-of-with (map keyOf (reached g t)) table (rw long room) key-small
 
   -- sorted and laid out, they are the entries of the positions reached, without rounds
-  pub arranged : (table : List ℕ) → length (reached g t) * 12 ≤ length table
+  pub arranged : (table : List ℕ) → length (reached g t) * entryWidth ≤ length table
       → Permuted (keys (length (reached g t)) table) (map keyOf (reached g t))
       → laidOut (keys (length (reached g t)) (withKeys (sorted (keys (length (reached g t)) table)) table)) ≡ rows (λ p. allOnes) (reached g t)
   unfolding rows
@@ -89,11 +89,8 @@ module _ {t : Task} (valid : Valid 6 t) (left : t .left .«state_count» ≤ 16)
       ∙ ap laidOut (keys-replaced table room)
       ∙ keys-laid-out (reached g t) packed
 
-  pub entries-length : length (entries g t) ≡ length (reached g t) * 12
+  pub entries-length : length (entries g t) ≡ length (reached g t) * entryWidth
   unfolding entries entry row
   entries-length =
-      records-length (entry g t (length (reached g t))) 12 (reached g t)
+      records-length (entry g t (length (reached g t))) entryWidth (reached g t)
       (λ p m. row-length p (roundsOrNever (rank g t (length (reached g t)) p)) (packed p m .1))
-
-  pub few-positions : length (reached g t) ≤ 3411712
-  few-positions = most-positions valid left right (reached g t) (reached-unique valid g) (reached-legal valid g)

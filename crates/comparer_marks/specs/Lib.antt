@@ -1,2 +1,2 @@
 -- What is done to the rounds of all entries.
-pub mod Words
+pub mod Scaling

@@ -1,33 +1,34 @@
 // Marks in a table of ranked positions. While marks stand, the rounds of an entry are doubled, and 1 more where the entry is
 // marked; FF FF FF FF stays as it is.
 use fra::Position;
+use listing::Listing;
+use listing::Place;
+use listing::find;
+use listing::rounds_at;
+use listing::words::put_word;
 use outcome::Verdict;
-use table::ENTRY;
-use table::NEVER;
-use table::Place;
-use table::ROUNDS;
-use table::find;
-use table::put_word;
-use table::word_at;
-ghost use Prim.Native.Nat.{_*_, _≤_};
+use outcome::layout::ENTRY;
+use outcome::layout::ENTRY_ROUNDS;
+use outcome::layout::NEVER;
 ghost use mathlib.Core.Path.{_≡_};
 ghost use lib.ListN.{length};
-ghost use Rattle.game_wins.specs.Judgement.{Searchable};
-ghost use Rattle.comparer_certify_laws.specs.Words.{withMark, isMarked};
+ghost use Rattle.listing.specs.Listing.{ofTable, Fitting, Searchable};
+ghost use Rattle.comparer_certify_laws.specs.MarkedRounds.{withMark, isMarked};
 ghost use Rattle.comparer_certify_laws.specs.Marking.{changed, roundsFor, marked};
-ghost use Rattle.comparer_certify_laws.specs.Records.{isListed, listedPlaces};
-ghost use Rattle.comparer_marks.specs.Words.{scaled};
+ghost use Rattle.comparer_certify_laws.specs.EntryRecords.{isListed, listedPlaces};
+ghost use Rattle.comparer_marks.specs.Scaling.{scaled};
 
 // The rounds of a position among the first n entries.
 pub fn rounds_of(table: &[u8], n: usize, q: Position) -> u32
-    requires { ⌜ Searchable n (now table) ⌝ }
+    requires { ⌜ Searchable (ofTable n) (now table) ⌝ }
     ensures { λ r. ⌜ r ≡ roundsFor n q (now (table .entry)) ⌝ }
 {
-    let place = find(table, n, q);
+    let entries = Listing::of_table(n);
+    let place = find(table, entries, q);
     let Place::At(i) = place else {
         return NEVER;
     };
-    word_at(table, i * ENTRY + ROUNDS)
+    rounds_at(table, entries, i)
 }
 
 // What is done to the rounds of all entries.
@@ -36,7 +37,10 @@ pub enum Scale {
     Halve,
 }
 
-// The rounds doubled or halved. No rounds reach 2147483648.
+// As many rounds no position has: there are fewer positions.
+const LIMIT: u32 = 2147483648;
+
+// The rounds doubled or halved.
 fn rescaled(scale: Scale, rounds: u32) -> u32
     ensures { λ r. ⌜ r ≡ scaled scale rounds ⌝ }
 {
@@ -44,20 +48,21 @@ fn rescaled(scale: Scale, rounds: u32) -> u32
         return rounds;
     }
     match scale {
-        Scale::Double => rounds % 2147483648 * 2,
+        Scale::Double => rounds % LIMIT * 2,
         Scale::Halve => rounds / 2,
     }
 }
 
 // Doubles or halves the rounds of the first n entries.
 pub fn rescale(table: &mut [u8], n: usize, scale: Scale)
-    requires { ⌜ n * 12 ≤ length (now table) ⌝ }
+    requires { ⌜ Fitting (ofTable n) (now table) ⌝ }
     ensures { λ _. ⌜ now (table .exit) ≡ changed (scaled scale) n (now (table .entry)) ⌝ }
 {
+    let entries = Listing::of_table(n);
     let mut i = 0;
     while i < n {
-        let at = i * ENTRY + ROUNDS;
-        put_word(table, at, rescaled(scale, word_at(table, at)));
+        let rounds = rounds_at(table, entries, i);
+        put_word(table, i * ENTRY + ENTRY_ROUNDS, rescaled(scale, rounds));
         i += 1;
     }
 }
@@ -71,15 +76,16 @@ fn with_mark(rounds: u32) -> u32
 
 // Marks the entry of a position among the first n.
 pub fn mark(table: &mut [u8], n: usize, q: Position)
-    requires { ⌜ Searchable n (now table) ⌝ }
+    requires { ⌜ Searchable (ofTable n) (now table) ⌝ }
     ensures { λ _. ⌜ now (table .exit) ≡ marked n q (now (table .entry)) ⌝ }
 {
-    let place = find(table, n, q);
+    let entries = Listing::of_table(n);
+    let place = find(table, entries, q);
     let Place::At(i) = place else {
         return;
     };
-    let at = i * ENTRY + ROUNDS;
-    put_word(table, at, with_mark(word_at(table, at)));
+    let rounds = rounds_at(table, entries, i);
+    put_word(table, i * ENTRY + ENTRY_ROUNDS, with_mark(rounds));
 }
 
 fn is_marked(rounds: u32) -> bool
@@ -100,13 +106,14 @@ pub fn is_listed(verdict: Verdict, rounds: u32) -> bool
 
 // How many of the first n entries have a record.
 pub fn count_listed(table: &[u8], n: usize, verdict: Verdict) -> usize
-    requires { ⌜ n * 12 ≤ length (now table) ⌝ }
+    requires { ⌜ Fitting (ofTable n) (now table) ⌝ }
     ensures { λ r. ⌜ r ≡ length (listedPlaces verdict n (now (table .entry))) ⌝ }
 {
+    let entries = Listing::of_table(n);
     let mut found = 0;
     let mut i = 0;
     while i < n {
-        if is_listed(verdict, word_at(table, i * ENTRY + ROUNDS)) {
+        if is_listed(verdict, rounds_at(table, entries, i)) {
             found += 1;
         }
         i += 1;

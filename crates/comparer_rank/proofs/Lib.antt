@@ -1,2 +1,5 @@
 -- Lemmas that the proofs of the functions share.
-pub mod Passing
+pub mod EntryGains
+pub mod PartWay
+pub mod AnyPassed
+pub mod PassResults

@@ -1,2 +1,2 @@
 -- What passes over the table do to it.
-pub mod Passes
+pub mod RankPasses

@@ -1,6 +1,6 @@
 -- Levels: how one pass finds the next, what they say of positions lost within k rounds, and when they are final. For any rules,
 -- task and register count. Assumes nothing.
-use Prim.Native.Nat.{ℕ, suc, _≤_, _<_}
+use Prim.Native.Nat.{ℕ, suc, _^_, _≤_, _<_}
 use mathlib.Core.Path.{_≡_, refl, sym, _∙_, ap, subst}
 use mathlib.Core.Logic.{inr, ⊎-elim}
 use mathlib.Core.Bool.{Bool, true, false, cond, _&&_}
@@ -22,13 +22,18 @@ use Rattle.fra_laws.proofs.Tests.{not-both, fails-unless}
 use Rattle.fra_laws.proofs.Lists.{any-witness, any-none, all-at, all-intro, first-found, first-none}
 use Rattle.fra_laws.proofs.Lost.{lost-step, not-lost-within-fewer, lost-within-more}
 use Rattle.fra_laws.proofs.Reached.{successors-intro}
-use Rattle.fra_laws.proofs.Rounds.{HasRank, Closed, Settled, rank-some, rank-none, rank-exactly, rank-reply, rank-never, settled-never-lost, rank-at-most-length}
+use Rattle.fra_laws.proofs.Ranks.{HasRank, Closed, Settled, rank-some, rank-none, rank-exactly, rank-reply, rank-never, settled-never-lost, rank-at-most-length}
 use Rattle.outcome.specs.Bytes.{allOnes}
 use Rattle.outcome.specs.Certificate.{roundsOrNever, wins, chosen}
-use Rattle.comparer_rank_laws.specs.Winner.{isFound}
+use Rattle.game_replies.specs.Winner.{winsBy, winner, isFound}
 use Rattle.comparer_rank_laws.specs.Levels.{level, ranked}
 
 module _ (g : Rules) (t : Task) where
+  -- the chosen attack of n rounds is the first that wins under "lost within n rounds"
+  pub chosen-winner : (n : ℕ) (p : Position) → chosen g t n p ≡ winner g t (lostWithin g t n) p
+  unfolding chosen wins winner winsBy
+  chosen-winner n p = refl
+
   -- ── The next rank ──
 
   pub rank-kept : (k : ℕ) (p : Position) (j : ℕ) → rank g t k p ≡ some j → rank g t (suc k) p ≡ some j
@@ -92,6 +97,15 @@ module _ (g : Rules) (t : Task) where
   ranked-successor k p b c h =
       let (a, i, j, d, r) = rank-reply g t p k b (ranked-rank (suc k) p c h) in
       (after t p a j, successors-intro g t p a j i d, rank-ranked k (after t p a j) r)
+
+  -- a level fits four bytes
+  pub level-small : (k : ℕ) (p : Position) → k < allOnes → level g t k p < 2 ^ 32
+  unfolding level
+  level-small k p b = step (rank g t k p) refl
+    where
+      step : (o : Option ℕ) → rank g t k p ≡ o → roundsOrNever (rank g t k p) < 2 ^ 32
+      step none e = rw e (omega arith)
+      step (some j) e = rw e (omega (arith, rank-some g t k p j e .1))
 
   -- what the level of k rounds or of more says of k rounds: so a table that holds both levels judges replies rightly
   pub level-judges : (k n : ℕ) (q : Position) → k ≤ n → k < allOnes → ltb (level g t n q) (suc k) ≡ lostWithin g t k q
@@ -171,8 +185,8 @@ module _ (g : Rules) (t : Task) where
 
         step : (o : Option ℕ) → rank g t (suc k) p ≡ o → rank g t (suc k) p ≡ rank g t (length l) p
         step none e =
-            let never = settled-never-lost g t l closed k settled p m (not-lost-within-fewer g t k (suc k) p (omega arith) (rank-none g t (suc k) p e)) in
-            e ∙ sym (rank-never g t l closed p m .1 never)
+            let unlost = not-lost-within-fewer g t k (suc k) p (omega arith) (rank-none g t (suc k) p e) in
+            e ∙ sym (rank-never g t l closed p m .1 (settled-never-lost g t l closed k settled p m unlost))
         step (some j) e =
             let (r, b) = rank-some g t (suc k) p j e in
             e ∙ sym (rank-exactly g t (length l) p j .1 (r, rank-at-most-length g t l closed p m j r))

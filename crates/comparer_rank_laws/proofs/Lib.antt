@@ -1,6 +1,7 @@
--- Laws of levels, of the first attack that wins, of rows, of sets of state pairs, and of the positions that new rounds leave.
+-- Laws of levels, of tables in which some entries have new rounds, of look-ups in them, and of where a pass has to look.
 pub mod Levels
-pub mod Winners
-pub mod Rows
-pub mod Pairs
-pub mod Positions
+pub mod EntryRows
+pub mod PositionsKept
+pub mod RisingPlaces
+pub mod Sources
+pub mod FewPositions

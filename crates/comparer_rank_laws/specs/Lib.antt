@@ -1,5 +1,4 @@
--- What a pass over the table finds: levels of rounds, and the first attack that wins; and where a pass has to look.
-pub mod Winner
+-- What a pass over the table finds: levels of rounds; and where a pass has to look.
 pub mod Levels
-pub mod Rows
-pub mod Pairs
+pub mod EntryRows
+pub mod Sources

@@ -1,13 +1,12 @@
 // The static library: the comparer and the certificate checker for callers in C. Buffers are a pointer and a length each;
-// the answer is written where the caller says.
+// the answer is returned by value.
 use outcome::Check;
 use outcome::Comparison;
-use outcome::Verdict;
 ghost use mathlib.Core.Path.{_≡_};
-ghost use Rattle.outcome.specs.Verdicts.{equality, kindOf, valuesOf, checkedValuesOf};
+ghost use Rattle.outcome.specs.Verdicts.{equality, valuesOf, checkedValuesOf};
 ghost use Rattle.outcome.specs.Compare.{compare};
 ghost use Rattle.outcome.specs.Check.{check};
-ghost use Rattle.exports.specs.Answers.{numbersIn, verdictValues, refusalValues, Returns};
+ghost use Rattle.exports.specs.ReturnedNumbers.{numbersIn, Returns};
 
 // What a call returns: a refusal's number and zeros, or 0 and the verdict's numbers. A verdict's number is the kind of its
 // certificate's records.
@@ -20,40 +19,8 @@ pub struct Answer {
     pub length: usize,
 }
 
-fn number_of(v: Verdict) -> u32
-    ensures { λ r. ⌜ r ≡ kindOf v ⌝ }
-{
-    match v {
-        Verdict::Equal => 16,
-        Verdict::Differ => 17,
-    }
-}
-
-fn verdict_answer(v: Verdict, positions: u32, rounds: u32, length: usize) -> Answer
-    ensures { λ r. ⌜ numbersIn r ≡ verdictValues v positions rounds length ⌝ }
-{
-    Answer {
-        refusal: 0,
-        verdict: number_of(v),
-        positions,
-        rounds,
-        length,
-    }
-}
-
-fn refusal_answer(n: u8) -> Answer
-    ensures { λ r. ⌜ numbersIn r ≡ refusalValues n ⌝ }
-{
-    Answer {
-        refusal: n as u32,
-        verdict: 0,
-        positions: 0,
-        rounds: 0,
-        length: 0,
-    }
-}
-
-fn comparison_answer(c: Comparison) -> Answer
+// The numbers of a comparison's answer.
+fn answer_of(c: Comparison) -> Answer
     ensures { λ r. ⌜ numbersIn r ≡ valuesOf c ⌝ }
 {
     match c {
@@ -62,17 +29,35 @@ fn comparison_answer(c: Comparison) -> Answer
             positions,
             rounds,
             length,
-        } => verdict_answer(verdict, positions, rounds, length),
-        Comparison::Refused(n) => refusal_answer(n),
+        } => Answer {
+            refusal: 0,
+            verdict: verdict.kind() as u32,
+            positions,
+            rounds,
+            length,
+        },
+        Comparison::Refused(n) => Answer {
+            refusal: n as u32,
+            verdict: 0,
+            positions: 0,
+            rounds: 0,
+            length: 0,
+        },
     }
 }
 
-fn check_answer(c: Check) -> Answer
-    ensures { λ r. ⌜ numbersIn r ≡ checkedValuesOf c ⌝ }
+// A check's answer as that of a comparison with the same numbers.
+fn as_comparison(c: Check) -> Comparison
+    ensures { λ r. ⌜ valuesOf r ≡ checkedValuesOf c ⌝ }
 {
     match c {
-        Check::Accepted { verdict, rounds } => verdict_answer(verdict, 0, rounds, 0),
-        Check::Refused(n) => refusal_answer(n),
+        Check::Accepted { verdict, rounds } => Comparison::Decided {
+            verdict,
+            positions: 0,
+            rounds,
+            length: 0,
+        },
+        Check::Refused(n) => Comparison::Refused(n),
     }
 }
 
@@ -81,7 +66,7 @@ fn check_answer(c: Check) -> Answer
 pub extern "C" fn nuldopa_compare(file: &[u8], table: &mut [u8], certificate: &mut [u8]) -> Answer
     ensures { λ r. ⌜ Returns (compare equality (now (file .entry)) (now (table .entry)) (now (certificate .entry))) r (now (table .exit)) (now (certificate .exit)) ⌝ }
 {
-    comparison_answer(comparer::compare(file, table, certificate))
+    answer_of(comparer::compare(file, table, certificate))
 }
 
 // Checks a proposed certificate.
@@ -89,5 +74,5 @@ pub extern "C" fn nuldopa_compare(file: &[u8], table: &mut [u8], certificate: &m
 pub extern "C" fn nuldopa_check(file: &[u8], certificate: &[u8]) -> Answer
     ensures { λ r. ⌜ numbersIn r ≡ checkedValuesOf (check equality (now (file .entry)) (now (certificate .entry))) ⌝ }
 {
-    check_answer(checker::check(file, certificate))
+    answer_of(as_comparison(checker::check(file, certificate)))
 }

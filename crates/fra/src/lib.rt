@@ -146,6 +146,9 @@ pub struct Position {
 }
 
 impl Position {
+    // The bytes of a position: its two states and its partners.
+    pub const WIDTH: usize = (Model::REGISTERS as usize) + 2;
+
     // The empty matching: no register has a partner.
     pub const EMPTY: [u8; 6] = [0; 6];
 

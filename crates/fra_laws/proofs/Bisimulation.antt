@@ -16,7 +16,7 @@ use Rattle.fra.specs.declared.Task.{Task}
 use Rattle.fra_laws.proofs.Tests.{not-both}
 use Rattle.fra_laws.proofs.Lists.{keep-intro, keep-elim}
 use Rattle.fra_laws.proofs.Lost.{NeverLost, lost-at-once, not-lost-step, answered-never-lost}
-use Rattle.fra_laws.proofs.Rounds.{Closed, never-lost-by-length}
+use Rattle.fra_laws.proofs.Ranks.{Closed, never-lost-by-length}
 
 -- the members that are not lost within as many rounds as there are members
 abbrev pub keptMembers : Rules → Task → List Position → List Position

@@ -25,7 +25,7 @@ use Rattle.fra.specs.declared.Attack.{Attack}
 use Rattle.fra_laws.proofs.Tests.{and-left, and-right}
 use Rattle.fra_laws.proofs.Lists.{flatMap-elim}
 use Rattle.fra_laws.proofs.Registers.{has-positive, Matching, matching-facts, matching-intro, left-partner-sound, left-of-right, matched-length, matched-matching}
-use Rattle.fra_laws.proofs.Attacks.{attack-at, reply-at}
+use Rattle.fra_laws.proofs.AttackMembers.{attack-at, reply-at}
 
 -- ── Valid models ──
 

@@ -3,14 +3,14 @@ use Prim.Native.Nat.{ℕ, zero, suc, _+_, _≤_, _<_}
 use mathlib.Core.Path.{_≡_, refl, sym, _∙_, ap, subst}
 use mathlib.Core.Logic.{_⊎_, inl, inr, ⊎-elim}
 use mathlib.Core.Bool.{Bool, true, false, false≢true, true≢false}
-use mathlib.Core.List.{List, [], _∷_, map, flatMap, List·Memᴰ·head, List·Memᴰ·tail, List·Memᴰ·not-nil, List·Memᴰ·cases-cons, List·Memᴰ·append-cases, Memᴰ·append-left, Memᴰ·append-right, Memᴰ·cast}
-use mathlib.Core.Option.{Option, none, some}
+use mathlib.Core.List.{List, [], _∷_, _++_, map, flatMap, List·Memᴰ·head, List·Memᴰ·tail, List·Memᴰ·not-nil, List·Memᴰ·cases-cons, List·Memᴰ·append-cases, Memᴰ·append-left, Memᴰ·append-right, Memᴰ·cast}
+use mathlib.Core.Option.{Option, none, some, orElse}
 use native.Mathlib.Omega.{arith}
 use native.Mathlib.Decide.{ℕ-discrete}
 use lib.Dec.{eqb}
 use borrow.Author.Tests.{eqb-true, eq-eqb}
 use Rattle.fra.specs.Lists.{_∈_, any, all, keep, first, count, least}
-use Rattle.fra_laws.proofs.Tests.{and-left, and-right, and-intro, and-false, or-cases, or-left, or-right, not-both}
+use Rattle.fra_laws.proofs.Tests.{clash, and-left, and-right, and-intro, and-false, or-cases, or-left, or-right, not-both}
 
 module _ {A : Type 0} where
   -- ── any, all ──
@@ -103,7 +103,7 @@ module _ {A : Type 0} where
 
   pub first-found : (f : A → Bool) (l : List A) (x : A) → first f l ≡ some x → (x ∈ l) × (f x ≡ true)
   unfolding first
-  first-found f [] x h = let z : _≡_ {A = ℕ} 0 1 = cc in absurd (omega arith)
+  first-found f [] x h = clash (cc)
   first-found f (y ∷ ys) x h = step (f y) refl (first-found f ys x)
     where
       step : (b : Bool) → f y ≡ b → (first f ys ≡ some x → (x ∈ ys) × (f x ≡ true)) → (x ∈ y ∷ ys) × (f x ≡ true)
@@ -125,8 +125,7 @@ module _ {A : Type 0} where
       step : (b : Bool) → f y ≡ b → (first f ys ≡ none → any f ys ≡ false) → any f (y ∷ ys) ≡ false
       step true e rest =
           let d : first f (y ∷ ys) ≡ some y = rw (e, first) in
-          let z : _≡_ {A = ℕ} 0 1 = cc in
-          absurd (omega arith)
+          clash (cc)
       step false e rest =
           let d : first f (y ∷ ys) ≡ first f ys = rw (e, first) in
           rw e (rest (sym d ∙ h))
@@ -151,6 +150,38 @@ module _ {A B : Type 0} where
   flatMap-elim f [] m = absurd (List·Memᴰ·not-nil m)
   flatMap-elim f (x ∷ xs) {b} m =
       some-cons (λ a. b ∈ f a) x xs (λ (n : b ∈ flatMap f xs). flatMap-elim f xs n) (List·Memᴰ·append-cases (f x) m)
+
+-- ── The first that passes ──
+
+module _ {A : Type 0} where
+  pub first-passes : (f : A → Bool) (x : A) (xs : List A) → f x ≡ true → first f (x ∷ xs) ≡ some x
+  unfolding first
+  first-passes f x xs e = rw (e, first)
+
+  pub first-fails : (f : A → Bool) (x : A) (xs : List A) → f x ≡ false → first f (x ∷ xs) ≡ first f xs
+  unfolding first
+  first-fails f x xs e = rw (e, first)
+
+  pub first-append : (f : A → Bool) (l m : List A) → first f (l ++ m) ≡ orElse (first f l) (first f m)
+  unfolding first orElse
+  first-append f [] m = refl
+  first-append f (x ∷ l) m = step (f x) refl (first-append f l m)
+    where
+      step : (b : Bool) → f x ≡ b → first f (l ++ m) ≡ orElse (first f l) (first f m)
+          → first f (x ∷ (l ++ m)) ≡ orElse (first f (x ∷ l)) (first f m)
+      step true e r = rw (first-passes f x (l ++ m) e, first-passes f x l e)
+      step false e r = rw (first-fails f x (l ++ m) e, first-fails f x l e) r
+
+  -- tests that agree on a list
+  pub first-same : (f h : A → Bool) (l : List A) → ((x : A) → x ∈ l → f x ≡ h x) → first f l ≡ first h l
+  unfolding first
+  first-same f h [] e = refl
+  first-same f h (x ∷ xs) e =
+      step (h x) (e x (List·Memᴰ·head refl)) refl (first-same f h xs (λ y m. e y (List·Memᴰ·tail m)))
+    where
+      step : (b : Bool) → f x ≡ b → h x ≡ b → first f xs ≡ first h xs → first f (x ∷ xs) ≡ first h (x ∷ xs)
+      step true p q r = first-passes f x xs p ∙ sym (first-passes h x xs q)
+      step false p q r = first-fails f x xs p ∙ r ∙ sym (first-fails h x xs q)
 
 -- ── Numbers that stand in a list ──
 
@@ -186,7 +217,7 @@ count-elim i (suc n) k m = step (λ (h : k ∈ count (suc i) n). count-elim (suc
 pub least-found : (f : ℕ → Bool) (i n k : ℕ) → least f i n ≡ some k
     → (f k ≡ true) × (k < i + n) × ((j : ℕ) → i ≤ j → j < k → f j ≡ false)
 unfolding least
-least-found f i zero k h = let z : _≡_ {A = ℕ} 0 1 = cc in absurd (omega arith)
+least-found f i zero k h = clash (cc)
 least-found f i (suc n) k h = step (f i) refl (least-found f (suc i) n k)
   where
     step : (b : Bool) → f i ≡ b
@@ -213,8 +244,7 @@ least-none f i (suc n) h k p q = step (f i) refl (λ (e : least f (suc i) n ≡ 
     step : (b : Bool) → f i ≡ b → (least f (suc i) n ≡ none → suc i ≤ k → f k ≡ false) → f k ≡ false
     step true e rest =
         let d : least f i (suc n) ≡ some i = rw (e, least) in
-        let z : _≡_ {A = ℕ} 0 1 = cc in
-        absurd (omega arith)
+        clash (cc)
     step false e rest =
         let d : least f i (suc n) ≡ least f (suc i) n = rw (e, least) in
         at (ℕ-discrete k i) (rest (sym d ∙ h))

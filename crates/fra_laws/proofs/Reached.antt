@@ -20,7 +20,7 @@ use Rattle.fra_laws.proofs.Lists.{flatMap-intro}
 use Rattle.fra_laws.proofs.Lengths.{unique-length}
 use Rattle.fra_laws.proofs.Closure.{Computes, closed-computes, closure-keeps, rising-unique}
 use Rattle.fra_laws.proofs.Legal.{legal-facts, successors-legal}
-use Rattle.fra_laws.proofs.Count.{injections-power, legal-count}
+use Rattle.fra_laws.proofs.LegalPositions.{injections-power, legal-count}
 
 -- an attack and its reply lead to a successor
 pub successors-intro : (g : Rules) (t : Task) (p : Position) (a : Attack) (k : ℕ) → a ∈ attacks g t p → k ∈ replies t p a

@@ -3,7 +3,7 @@
 use Prim.Native.Nat.{ℕ, zero, suc, _≤_, _<_}
 use mathlib.Core.Path.{_≡_, refl, sym, _∙_}
 use mathlib.Core.Logic.{_↔_}
-use mathlib.Core.Bool.{Bool, true, false, false≢true}
+use mathlib.Core.Bool.{true, false, false≢true}
 use mathlib.Core.List.{map, Memᴰ·of-map}
 use native.Mathlib.Omega.{arith}
 use lib.Dec.{eqb}
@@ -27,27 +27,12 @@ use Rattle.fra.specs.declared.Side.the-variants.{Left, Right}
 use Rattle.fra.specs.declared.IdCase.{IdCase}
 use Rattle.fra.specs.declared.IdCase.the-variants.{Held, Private, Seen, New}
 use Rattle.fra.specs.declared.Attack.{Attack}
+use Rattle.fra_laws.specs.Joint.{compatible}
 use Rattle.fra_laws.proofs.Tests.{and-right, and-intro}
 use Rattle.fra_laws.proofs.Lists.{flatMap-elim}
-use Rattle.fra_laws.proofs.Attacks.{Within, attack-at, is-attack, reply-at, is-reply}
+use Rattle.fra_laws.proofs.AttackMembers.{Within, attack-at, is-attack, reply-at, is-reply}
 use Rattle.fra_laws.proofs.Legal.{valid-side, Legal, legal-facts, partner-mutual}
 use Rattle.fra_laws.proofs.Reached.{successors-intro}
-
--- an edge of side s and an edge of the other side, of these kinds, can take one number in a round
-unfoldable pub compatible : Position → Side → EdgeKind → EdgeKind → Bool
--- the two registers hold one number
-compatible p s (Known i) (Known j) = eqb (partner p s i) j
--- the other reader does not hold the number
-compatible p s (Known i) (LocallyFresh j) = eqb (partner p s i) 0
-compatible p s (LocallyFresh i) (Known j) = eqb (partner p (other s) j) 0
--- a number that is held is in the history
-compatible p s (Known i) (GloballyFresh j) = false
-compatible p s (GloballyFresh i) (Known j) = false
--- a new number is fresh to both
-compatible p s (LocallyFresh i) (LocallyFresh j) = true
-compatible p s (LocallyFresh i) (GloballyFresh j) = true
-compatible p s (GloballyFresh i) (LocallyFresh j) = true
-compatible p s (GloballyFresh i) (GloballyFresh j) = true
 
 -- ── Kinds that answer each other ──
 

@@ -1,7 +1,14 @@
--- Tests that compute: what `&&` and `||` say of their parts, and a case split on a test. Assumes nothing.
+-- Tests that compute: what `&&` and `||` say of their parts, and a case split on a test; and what follows where two constructors
+-- would be one. Assumes nothing.
+use Prim.Native.Nat.{ℕ}
 use mathlib.Core.Path.{_≡_, refl, sym, _∙_}
 use mathlib.Core.Logic.{_⊎_, inl, inr}
 use mathlib.Core.Bool.{Bool, true, false, _&&_, _||_, true≢false, false≢true}
+use native.Mathlib.Omega.{arith}
+
+-- two constructors are not one: `clash (cc)` where the facts in scope say that they are
+pub clash {ℓ} : {X : Type ℓ} → _≡_ {A = ℕ} 0 1 → X
+clash z = absurd (omega arith)
 
 pub and-left : (a b : Bool) → (a && b) ≡ true → a ≡ true
 and-left true b h = refl

@@ -7,7 +7,7 @@ use mathlib.Core.Option.{Option, none, some}
 use native.Mathlib.Nat.{add-zero, zero-add, suc-add}
 use native.Mathlib.Numerals.{add-one}
 use native.Mathlib.Omega.{arith}
-use lib.ListN.{length, getD, drop}
+use lib.ListN.{length, getD}
 use Rattle.fra.specs.Lists.{keep, count, least}
 use Rattle.fra.specs.Rules.{other}
 use Rattle.fra.specs.Position.{filled}
@@ -19,11 +19,11 @@ use Rattle.fra.specs.declared.EdgeKind.the-variants.{Known, LocallyFresh, Globa
 use Rattle.fra.specs.declared.Task.{Task}
 use Rattle.fra.specs.declared.Position.{Position}
 use Rattle.fra.specs.declared.Side.{Side}
-use Rattle.game_moves.specs.Cases.{caseAt, hasCaseIn, caseAnswer, caseFrom}
+use Rattle.game_moves.specs.IdCases.{caseAt, hasCaseIn, caseAnswer, caseFrom, casesFrom}
 use Rattle.game_moves.specs.declared.cases.CaseFound.{CaseFound}
 use Rattle.game_moves.specs.declared.cases.CaseFound.the-variants.{At, NoMore}
-use Rattle.game_moves.proofs.Lists.{keep-same}
-use Rattle.game_moves.proofs.Searches.{least-here, least-later, least-end, test, KeptFrom, kept-from}
+use Rattle.fra_laws.proofs.KeptLists.{keep-same}
+use Rattle.fra_laws.proofs.Least.{least-here, least-later, least-end, test, KeptFrom, kept-from}
 
 private-at : (i n k : ℕ) (rest : List IdCase) → k < n → getD (map Private (count i n) ++ rest) k New ≡ Private (i + k)
 unfolding count
@@ -89,20 +89,16 @@ module _ (r others : ℕ) (p : Position) (s : Side) (kind : EdgeKind) (n : ℕ) 
 -- ── One after another ──
 
 module _ (others : ℕ) (p : Position) (s : Side) (kind : EdgeKind) where
-  -- the cases of the edge from number n on, in order
-  abbrev pub casesFrom : ℕ → List IdCase
-  casesFrom n = keep (hasCaseIn others p s kind) (drop n (cases (length (p .partners))))
-
   -- case c is the first of them, and those that follow are from number k on
   pub record NextCase (n : ℕ) (c : IdCase) (k : ℕ) : Type 0 where
     pub positive : 1 ≤ k
     pub exists : k ≤ length (p .partners) + 3
     pub numbered : c ≡ caseAt (length (p .partners)) (k - 1)
-    pub first : casesFrom n ≡ c ∷ casesFrom k
+    pub first : casesFrom others p s kind n ≡ c ∷ casesFrom others p s kind k
 
   -- what an answer says of them
   abbrev CasesFrom : ℕ → CaseFound → Type 0
-  CasesFrom n NoMore = casesFrom n ≡ []
+  CasesFrom n NoMore = casesFrom others p s kind n ≡ []
   CasesFrom n (At c k) = NextCase n c k
 
   cases-from : (n : ℕ) → CasesFrom n (caseFrom others p s kind n)
@@ -128,7 +124,7 @@ module _ (others : ℕ) (p : Position) (s : Side) (kind : EdgeKind) where
   pub case-found : (n : ℕ) (c : IdCase) (k : ℕ) → caseFrom others p s kind n ≡ At c k → NextCase n c k
   case-found n c k e = rw e at (cases-from n)
 
-  pub no-case : (n : ℕ) → caseFrom others p s kind n ≡ NoMore → casesFrom n ≡ []
+  pub no-case : (n : ℕ) → caseFrom others p s kind n ≡ NoMore → casesFrom others p s kind n ≡ []
   no-case n e = rw e at (cases-from n)
 
 -- ── All of them ──

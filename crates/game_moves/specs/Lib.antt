@@ -1,3 +1,4 @@
 -- What the functions compute, in terms of the game.
-pub mod Rounds
-pub mod Cases
+pub mod AfterRound
+pub mod IdCases
+pub mod AttacksBySide

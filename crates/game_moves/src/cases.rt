@@ -6,7 +6,7 @@ use fra::Position;
 use fra::Side;
 use fra::has;
 ghost use mathlib.Core.Path.{_≡_};
-ghost use Rattle.game_moves.specs.Cases.{caseAt, unpartnered, hasCaseIn, caseFrom};
+ghost use Rattle.game_moves.specs.IdCases.{caseAt, unpartnered, hasCaseIn, caseFrom};
 
 // How many id cases there are.
 const COUNT: u8 = Model::REGISTERS + 3;

@@ -7,8 +7,8 @@ use fra::has;
 ghost use mathlib.Core.Path.{_≡_};
 ghost use Rattle.fra.specs.Game.{rejoined, remaining};
 ghost use Rattle.fra.specs.declared.Side.the-variants.{Left};
-ghost use Rattle.fra_laws.proofs.Successors.{compatible};
-ghost use Rattle.game_moves.specs.Rounds.{movedTo};
+ghost use Rattle.fra_laws.specs.Joint.{compatible};
+ghost use Rattle.game_moves.specs.AfterRound.{movedTo};
 
 // Where an edge leads: the register that holds the number taken, the to state and its register set.
 pub struct Target {

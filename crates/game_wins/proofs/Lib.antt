@@ -1,4 +1,6 @@
--- Lemmas that the proofs of the functions share.
-pub mod Judging
-pub mod Settling
-pub mod Winning
+-- Lemmas that the proofs of the functions share, and that callers use.
+pub mod AllPairs
+pub mod EdgeCases
+pub mod SettledAttacks
+pub mod SideEdges
+pub mod WinAnswers

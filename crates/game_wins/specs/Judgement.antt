@@ -1,32 +1,30 @@
--- What a table says of positions.
-use Prim.Native.Nat.{ℕ, _*_, _≤_}
-use mathlib.Core.Bool.{Bool, false, _&&_}
+-- What a listing says of positions.
+use Prim.Native.Nat.{ℕ}
+use mathlib.Core.Bool.{Bool, true, false, _&&_}
 use mathlib.Core.List.{List}
-use lib.ListN.{length}
 use lib.Dec.{ltb}
-use Rattle.fra.specs.Position.{Rising}
 use Rattle.fra.specs.declared.Position.{Position}
-use Rattle.table_laws.specs.Table.{positions}
-use Rattle.table.specs.Places.{placeOf}
-use Rattle.table.specs.declared.Place.{Place}
-use Rattle.table.specs.declared.Place.the-variants.{At, Nowhere}
-use Rattle.comparer_rank_laws.specs.Rows.{roundsAt}
-use Rattle.comparer_rank_laws.specs.Pairs.{hasPair}
+use Rattle.listing.specs.Listing.{roundsAt, positionsIn}
+use Rattle.listing.specs.Lookup.{placeOf}
+use Rattle.listing.specs.declared.Listing.{Listing}
+use Rattle.listing.specs.declared.Place.{Place}
+use Rattle.listing.specs.declared.Place.the-variants.{At, Nowhere}
+use Rattle.game_state_pairs.specs.StatePairs.{hasPair}
+use Rattle.game_wins.specs.declared.Test.{Test}
+use Rattle.game_wins.specs.declared.Test.the-variants.{Sooner, Unlisted}
+use Rattle.game_wins.specs.declared.Judge.{Judge}
 
--- the positions of the first n entries rise, so that one can be looked up
-pub record Searchable (n : ℕ) (table : List ℕ) : Type 0 where
-  pub room : n * 12 ≤ length table
-  pub rising : Rising (positions n table)
+-- a position that is found at this place, or nowhere, is lost
+abbrev pub lostAt : List ℕ → Listing → Test → Place → Bool
+lostAt l y (Sooner k) (At i) = ltb (roundsAt y l i) k
+lostAt l y (Sooner k) Nowhere = false
+lostAt l y Unlisted (At i) = false
+lostAt l y Unlisted Nowhere = true
 
--- there is an entry at this place, with fewer rounds than k
-abbrev pub fewerAt : List ℕ → ℕ → Place → Bool
-fewerAt table k (At i) = ltb (roundsAt table i) k
-fewerAt table k Nowhere = false
-
--- the table's judgement: the position stands among the first n entries with fewer rounds than k
-unfoldable pub lostBefore : List ℕ → ℕ → ℕ → Position → Bool
-lostBefore table n k q = fewerAt table k (placeOf q (positions n table))
+-- the listing judges the position lost
+unfoldable pub judged : List ℕ → Judge → Position → Bool
+judged l j q = lostAt l (j .records) (j .test) (placeOf q (positionsIn (j .records) l))
 
 -- the same, but nothing is lost with a pair of states that the set has not
-unfoldable pub lostAmong : List ℕ → List ℕ → ℕ → ℕ → Position → Bool
-lostAmong losing table n k q = hasPair losing (q .left) (q .right) && lostBefore table n k q
+unfoldable pub judgedAmong : List ℕ → List ℕ → Judge → Position → Bool
+judgedAmong losing l j q = hasPair losing (q .left) (q .right) && judged l j q

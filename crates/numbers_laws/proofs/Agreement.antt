@@ -15,12 +15,12 @@ use Rattle.fra.specs.declared.Side.the-variants.{Left, Right}
 use Rattle.fra.specs.declared.IdCase.{IdCase}
 use Rattle.fra_laws.proofs.Tests.{fails-unless, not-both}
 use Rattle.fra_laws.proofs.Lost.{Winnable, NeverLost, lost-at-once, lost-step}
-use Rattle.fra_laws.proofs.Rounds.{HasRank, rank-least}
+use Rattle.fra_laws.proofs.Ranks.{HasRank, rank-least}
 use Rattle.numbers.specs.Numbers.{Setting, Choice, Reply, afterReply, Forced, Opening, Enough, LeastEnough}
 use Rattle.numbers_laws.proofs.Over.{Over}
 use Rattle.numbers_laws.proofs.Choices.{attackOf, Chosen, attack-of-choice, choice-of-attack}
-use Rattle.numbers_laws.proofs.Replies.{replies-agree}
-use Rattle.numbers_laws.proofs.Rounds.{round-over}
+use Rattle.numbers_laws.proofs.NumberReplies.{replies-agree}
+use Rattle.numbers_laws.proofs.OverAfterRounds.{round-over}
 use Rattle.numbers_laws.proofs.Openings.{opening-over, an-opening}
 
 module _ (g : Rules) (r : ℕ) (t : Task) (v : Valid r t) where

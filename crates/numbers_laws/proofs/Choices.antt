@@ -28,11 +28,11 @@ use Rattle.fra.specs.declared.IdCase.the-variants.{Held, Private, Seen, New}
 use Rattle.fra_laws.proofs.Tests.{and-left, and-right, and-intro}
 use Rattle.fra_laws.proofs.Lists.{any-witness, any-none, any-equal, none-equal, count-intro}
 use Rattle.fra_laws.proofs.Lengths.{count-length}
-use Rattle.fra_laws.proofs.Attacks.{Within, AttackAt, attack-at, is-attack}
+use Rattle.fra_laws.proofs.AttackMembers.{Within, AttackAt, attack-at, is-attack}
 use Rattle.fra_laws.proofs.Legal.{valid-side, registers-exist}
 use Rattle.fra_laws.proofs.Successors.{other-other}
 use Rattle.numbers.specs.Numbers.{Setting, readerOf, Takes, Choice}
-use Rattle.numbers_laws.proofs.Lists.{outside, pigeonhole}
+use Rattle.numbers_laws.proofs.FiniteSets.{outside, pigeonhole}
 use Rattle.numbers_laws.proofs.Over.{HoldsAt, Lacks, Over, placed, unseen-lacks, partner-holds, not-unpartnered}
 
 -- side σ finds the number n in its register j, in the history and in no register of its own, or nowhere

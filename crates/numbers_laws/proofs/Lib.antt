@@ -1,7 +1,7 @@
-pub mod Lists
+pub mod FiniteSets
 pub mod Over
 pub mod Choices
-pub mod Replies
-pub mod Rounds
+pub mod NumberReplies
+pub mod OverAfterRounds
 pub mod Openings
 pub mod Agreement

@@ -22,6 +22,11 @@ abbrev pub kindOf : Verdict → ℕ
 kindOf Equal = 16
 kindOf Differ = 17
 
+-- the bytes of such a record: "kind 16, position, 9 bytes each", "kind 17, position, .. 16 bytes each"
+abbrev pub widthOf : Verdict → ℕ
+widthOf Equal = 9
+widthOf Differ = 16
+
 -- The numbers that a call returns. A verdict's number is its certificate's kind.
 pub record Values : Type 0 where
   pub refusal : ℕ

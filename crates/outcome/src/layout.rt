@@ -1,22 +1,34 @@
-// The records of a certificate (01, "Verdict, table, certificate"): their kind bytes and widths, and where their fields stand,
-// counted from the kind byte.
+// The table's entries and the records of a certificate (01, "Verdict, table, certificate"): widths, kind bytes, and where fields
+// stand.
+use fra::Position;
 
-// Of positions that are never lost.
-pub const KEPT_KIND: u8 = 16;
+// The bytes of a number of rounds.
+pub const WORD: usize = 4;
 
-pub const KEPT_WIDTH: usize = 9;
+// An entry of the table, the place of its rounds, and the rounds of a position that is never lost.
+pub const ENTRY_ROUNDS: usize = Position::WIDTH;
 
-// Of positions that are lost.
-pub const LOST_KIND: u8 = 17;
+pub const ENTRY: usize = ENTRY_ROUNDS + WORD;
 
-pub const LOST_WIDTH: usize = 16;
+pub const NEVER: u32 = 4294967295;
 
+// A record's fields, counted from its kind byte. Those past the position are of lost positions alone.
 pub const POSITION: usize = 1;
 
-pub const SIDE: usize = 9;
+pub const SIDE: usize = POSITION + Position::WIDTH;
 
-pub const EDGE: usize = 10;
+pub const EDGE: usize = SIDE + 1;
 
-pub const CASE: usize = 11;
+pub const CASE: usize = EDGE + 1;
 
-pub const ROUNDS: usize = 12;
+pub const ROUNDS: usize = CASE + 1;
+
+// Records of positions that are never lost.
+pub const KEPT_KIND: u8 = 16;
+
+pub const KEPT_WIDTH: usize = SIDE;
+
+// Records of positions that are lost.
+pub const LOST_KIND: u8 = 17;
+
+pub const LOST_WIDTH: usize = ROUNDS + WORD;

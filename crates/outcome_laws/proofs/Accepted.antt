@@ -20,13 +20,14 @@ use Rattle.fra.specs.declared.Side.the-variants.{Left, Right}
 use Rattle.fra.specs.declared.IdCase.{IdCase}
 use Rattle.fra.specs.declared.IdCase.the-variants.{Held, Private, Seen, New}
 use Rattle.fra.specs.declared.Attack.{Attack}
+use Rattle.fra_laws.proofs.Tests.{clash}
 use Rattle.fra_laws.proofs.Lists.{any-witness, any-intro}
 use Rattle.fra_laws.proofs.Order.{equal-refl, equal-sound, bytes-injective}
 use Rattle.outcome.specs.Certificate.{Loss, sideNumber, caseNumber}
 use Rattle.outcome.specs.Conditions.{KeptCondition, LostCondition, LostAlready, LostByAttack}
 use Rattle.outcome.specs.Check.{same, holds, keptAccepted, sideOf, caseOf, attackFrom, attackIn, forces, lossHolds, lossesAccepted}
-use Rattle.outcome_laws.proofs.Tests.{tests}
-use Rattle.fra_laws.proofs.Attacks.{Within, attacks-intro, attacks-elim}
+use Rattle.outcome_laws.proofs.PassedTests.{tests}
+use Rattle.fra_laws.proofs.AttackMembers.{Within, attacks-intro, attacks-elim}
 
 -- ── The same position ──
 
@@ -59,7 +60,7 @@ side-decoded n s = step (eqb n 1) (eqb n 2) refl refl
     step : (a b : Bool) → eqb n 1 ≡ a → eqb n 2 ≡ b → cond a (some Left) (cond b (some Right) none) ≡ some s → n ≡ sideNumber s
     step true b e f h = let d : Left ≡ s = cc in rw (← d) (eqb-true n 1 e)
     step false true e f h = let d : Right ≡ s = cc in rw (← d) (eqb-true n 2 f)
-    step false false e f h = let z : _≡_ {A = ℕ} 0 1 = cc in absurd (omega arith)
+    step false false e f h = clash (cc)
 
 case-decodes : (r : ℕ) (c : IdCase) → Within r c → caseOf r (caseNumber r c) ≡ some c
 unfolding caseOf
@@ -88,7 +89,7 @@ case-decoded r n c = step (eqb n 0) (leb n r) (eqb n (r + 1)) (eqb n (r + 2)) re
         rw (← x) (refl, (omega arith, leb-true n r i))
     step false false true e h i j k f = let x : Seen ≡ c = cc in rw (← x) (eqb-true n (r + 1) j, tt)
     step false false false true h i j k f = let x : New ≡ c = cc in rw (← x) (eqb-true n (r + 2) k, tt)
-    step false false false false h i j k f = let z : _≡_ {A = ℕ} 0 1 = cc in absurd (omega arith)
+    step false false false false h i j k f = clash (cc)
 
 -- a record names an attack by its numbers
 record Names (x : Loss) (a : Attack) : Type 0 where
@@ -109,8 +110,8 @@ attack-named x a = (
     step : (s : Option Side) (c : Option IdCase) → sideOf (x .side) ≡ s → caseOf (length (x .position .partners)) (x .case) ≡ c
         → attackFrom s (x .edge) c ≡ some a
         → Names x a
-    step none c e f h = let z : _≡_ {A = ℕ} 0 1 = cc in absurd (omega arith)
-    step (some s) none e f h = let z : _≡_ {A = ℕ} 0 1 = cc in absurd (omega arith)
+    step none c e f h = clash (cc)
+    step (some s) none e f h = clash (cc)
     step (some s) (some c) e f h =
         let d : record { side = s; edge = x .edge; case = c } ≡ a = cc in
         let (g, w) = case-decoded (length (x .position .partners)) (x .case) c f in

@@ -14,7 +14,7 @@ use borrow.Author.Tests.{eqb-true, eqb-false, leb-true, leb-false}
 use Rattle.fra.specs.Lists.{_∈_}
 use Rattle.outcome.specs.Check.{bodies}
 use Rattle.outcome.specs.Refusals.{records}
-use Rattle.fra_laws.proofs.Tests.{and-left, and-right, passes-or-fails}
+use Rattle.fra_laws.proofs.Tests.{clash, and-left, and-right, passes-or-fails}
 
 -- every body has this many bytes
 abbrev pub Whole : ℕ → List (List ℕ) → Type 0
@@ -28,7 +28,7 @@ module _ (kind size : ℕ) where
       → (ds : List (List ℕ)) × (cs ≡ bs ++ ds) × (rest ≡ records kind ds)
   unfolding records flatMap
   records-front [] cs rest v w e = (cs, refl, sym e)
-  records-front (b ∷ bs) [] rest v w e = let z : _≡_ {A = ℕ} 0 1 = cc in absurd (omega arith)
+  records-front (b ∷ bs) [] rest v w e = clash (cc)
   records-front (b ∷ bs) (c ∷ cs) rest v w e =
       let f : c ++ records kind cs ≡ b ++ (records kind bs ++ rest) = cc (append-assoc b (records kind bs) rest) in
       let x = v b (List·Memᴰ·head refl) in
@@ -48,7 +48,7 @@ module _ (kind size : ℕ) where
     where
       none-left : (ds : List (List ℕ)) → [] ≡ records kind ds → cs ++ ds ≡ cs
       none-left [] h = append-nil cs
-      none-left (d ∷ ds) h = let z : _≡_ {A = ℕ} 0 1 = cc in absurd (omega arith)
+      none-left (d ∷ ds) h = clash (cc)
 
   -- ── What is read ──
 
@@ -59,7 +59,7 @@ module _ (kind size : ℕ) where
   -- no whole records begin so
   pub stops-here : (bs : List (List ℕ)) (b : ℕ) (rest : List ℕ) → Whole size bs → Stops b rest → b ∷ rest ≡ records kind bs → ⊥
   unfolding records flatMap
-  stops-here [] b rest w s e = let z : _≡_ {A = ℕ} 0 1 = cc in omega arith
+  stops-here [] b rest w s e = clash (cc)
   stops-here (c ∷ cs) b rest w (inl d) e = d (cc)
   stops-here (c ∷ cs) b rest w (inr (_, d)) e =
       let f : rest ≡ c ++ records kind cs = cc in

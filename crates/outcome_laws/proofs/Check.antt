@@ -11,7 +11,7 @@ use Rattle.fra.specs.Lists.{_∈_}
 use Rattle.fra.specs.Position.{legal, before, bytes, Rising}
 use Rattle.fra.specs.declared.Position.{Position}
 use Rattle.fra.specs.declared.Task.{Task}
-use Rattle.fra_laws.proofs.Tests.{not-both, fails-unless}
+use Rattle.fra_laws.proofs.Tests.{clash, not-both, fails-unless}
 use Rattle.fra_laws.proofs.Lists.{flatMap-intro}
 use Rattle.fra_laws.proofs.Order.{before-irreflexive}
 use Rattle.outcome.specs.Verdicts.{Contest, kindOf}
@@ -21,7 +21,7 @@ use Rattle.outcome.specs.Check.{checkTask, judgeList, orderly, positionOf, kept
 use Rattle.outcome.specs.Refusals.{Kind, of-kept, of-lost, records}
 use Rattle.outcome.specs.declared.Verdict.{Verdict}
 use Rattle.outcome.specs.declared.Check.the-variants.{Accepted, Refused}
-use Rattle.outcome_laws.proofs.Tests.{tests}
+use Rattle.outcome_laws.proofs.PassedTests.{tests}
 use Rattle.outcome_laws.proofs.Bodies.{Whole}
 use Rattle.outcome_laws.proofs.Orderly.{orderly-passes}
 use Rattle.outcome_laws.proofs.Accepted.{same-passes, kept-accepted, losses-accepted}
@@ -106,7 +106,7 @@ partners-count r t p h = let (((left, right), count), matching) = simp tests at 
 -- an accepted list is refused with 13 or not at all
 not-14 : (o : Bool) (v : Verdict) (n : ℕ) → judgeList o true (Accepted v n) ≡ Refused 14 → ⊥
 unfolding judgeList
-not-14 true v n h = let z : _≡_ {A = ℕ} 0 1 = cc in omega arith
+not-14 true v n h = clash (cc)
 not-14 false v n h = let z : _≡_ {A = ℕ} 13 14 = cc in omega arith
 
 module _ (r : ℕ) (c : Contest) (t : Task) (differ : kindOf (c .kept) ≢ kindOf (c .lost)) where
@@ -219,8 +219,8 @@ module _ (r : ℕ) (c : Contest) (t : Task) (differ : kindOf (c .kept) ≢ kindO
   check-accepted l h v n = (to (answer r c t differ l), check-accepts)
     where
       to : Answer r c t differ l → checkTask r c t l ≡ Accepted v n → Accepts r c t l v n
-      to (malformed m e) f = let z : _≡_ {A = ℕ} 0 1 = cc in absurd (omega arith)
-      to (rejected b a e) f = let z : _≡_ {A = ℕ} 0 1 = cc in absurd (omega arith)
+      to (malformed m e) f = clash (cc)
+      to (rejected b a e) f = clash (cc)
       to (accepted b a e) f =
           let i : v ≡ verdict r c t (b .known) = cc in
           let j : n ≡ rounds r c t (b .known) (b .bodies) = cc in
@@ -269,7 +269,7 @@ module _ (r : ℕ) (c : Contest) (t : Task) (differ : kindOf (c .kept) ≢ kindO
           → ((n ≡ 13) × Malformed r c t l) ⊎ (n ≡ 14) × NotAccepted r c t l
       to (inl a) e = let d : n ≡ 13 = cc in inl (d, check-refused-13 r c t differ l .0 a)
       to (inr (inl a)) e = let d : n ≡ 14 = cc in inr (d, check-refused-14 l h .0 a)
-      to (inr (inr (v, m, a))) e = let z : _≡_ {A = ℕ} 0 1 = cc in absurd (omega arith)
+      to (inr (inr (v, m, a))) e = clash (cc)
 
       from : ((n ≡ 13) × Malformed r c t l) ⊎ (n ≡ 14) × NotAccepted r c t l → checkTask r c t l ≡ Refused n
       from (inl (d, m)) = rw d (check-refused-13 r c t differ l .1 m)

@@ -12,6 +12,7 @@ use borrow.Author.Tests.{ltb-true, ltb-false}
 use Rattle.fra.specs.Reach.{reached, rounds}
 use Rattle.fra.specs.Valid.{Valid}
 use Rattle.fra.specs.declared.Task.{Task}
+use Rattle.fra_laws.proofs.Tests.{clash}
 use Rattle.fra_laws.proofs.Reached.{reached-exactly, reached-unique, reached-longest}
 use Rattle.outcome.specs.Bytes.{cleared, thenZeros, thenRest}
 use Rattle.outcome.specs.Verdicts.{Contest}
@@ -100,8 +101,8 @@ module _ (c : Contest) (t : Task) (table buffer : List ℕ) where
     where
       by : {o : Outcome} → Compared o → compareTask c t table buffer ≡ o → o .answer ≡ Decided v positions n size
           → Says v positions n size
-      by (too-small h) f e = let z : _≡_ {A = ℕ} 0 1 = cc in absurd (omega arith)
-      by (too-long h l) f e = let z : _≡_ {A = ℕ} 0 1 = cc in absurd (omega arith)
+      by (too-small h) f e = clash (cc)
+      by (too-long h l) f e = clash (cc)
       by (verdict h l) f e = decided-says v positions n size start refl e l f
 
   -- ── Refusals 11 and 12, each in its case ──
@@ -109,8 +110,8 @@ module _ (c : Contest) (t : Task) (table buffer : List ℕ) where
   -- a verdict is no refusal
   decided-not-refused : (positions length n : ℕ) (o : Option ℕ) → decided c positions o length ≡ Refused n → ⊥
   unfolding decided
-  decided-not-refused positions length n none e = let z : _≡_ {A = ℕ} 0 1 = cc in omega arith
-  decided-not-refused positions length n (some k) e = let z : _≡_ {A = ℕ} 0 1 = cc in omega arith
+  decided-not-refused positions length n none e = clash (cc)
+  decided-not-refused positions length n (some k) e = clash (cc)
 
   -- both fill the table with zeros and leave the certificate buffer
   pub late-outcome : (n : ℕ) → compareTask c t table buffer .answer ≡ Refused n

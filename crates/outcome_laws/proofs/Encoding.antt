@@ -12,7 +12,7 @@ use Rattle.fra.specs.declared.Position.{Position}
 use Rattle.outcome.specs.Bytes.{word, wordAt}
 use Rattle.outcome.specs.Certificate.{Loss}
 use Rattle.outcome.specs.Check.{positionOf, lossFrom, keptLength, lossLength}
-use Rattle.outcome_laws.proofs.Words.{word-value, word-bound, word-bytes}
+use Rattle.outcome_laws.proofs.WordBytes.{word-value, word-bound, word-bytes}
 
 -- numbers that are bytes
 abbrev pub Bytes : List ℕ → Type 0

@@ -1,12 +1,12 @@
-pub mod Tests
+pub mod PassedTests
 pub mod Bodies
 pub mod Orderly
 pub mod Accepted
-pub mod Words
+pub mod WordBytes
 pub mod Encoding
 pub mod Malformed
 pub mod Check
 pub mod Conditions
-pub mod Written
+pub mod WrittenLists
 pub mod Compare
-pub mod Own
+pub mod OwnCertificate

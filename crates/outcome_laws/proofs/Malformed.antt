@@ -19,7 +19,7 @@ use Rattle.outcome.specs.Refusals.{Kind, of-kept, of-lost, records, Begins, Mal
 use Rattle.outcome.specs.declared.Verdict.{Verdict}
 use Rattle.outcome.specs.declared.Check.{Check}
 use Rattle.outcome.specs.declared.Check.the-variants.{Accepted, Refused}
-use Rattle.fra_laws.proofs.Tests.{not-both}
+use Rattle.fra_laws.proofs.Tests.{clash, not-both}
 use Rattle.outcome_laws.proofs.Bodies.{Whole, Stops, records-front, stops-here, bodies-some, bodies-none}
 use Rattle.outcome_laws.proofs.Orderly.{orderly-fails}
 
@@ -111,7 +111,7 @@ module _ (r : ℕ) (c : Contest) (t : Task) where
     begins-front {kind} {size} k bs w rest s = step (s .kind) (s .size) (s .known) (s .bodies) (s .whole) (s .begins)
       where
         first : (j : ℕ) (bs : List (List ℕ)) (l : List ℕ) → records kind bs ≡ j ∷ l → j ≡ kind
-        first j [] l e = let z : _≡_ {A = ℕ} 0 1 = cc in absurd (omega arith)
+        first j [] l e = clash (cc)
         first j (b ∷ bs) l e = cc
 
         step : (kind₁ size₁ : ℕ) → Kind r c kind₁ size₁ → (cs : List (List ℕ)) → Whole size₁ cs
@@ -236,7 +236,7 @@ module _ (r : ℕ) (c : Contest) (t : Task) where
         to : Answer l → checkTask r c t l ≡ Refused 13 → Malformed r c t l
         to (malformed m e) h = m
         to (rejected f a e) h = let z : _≡_ {A = ℕ} 13 14 = cc in absurd (omega arith)
-        to (accepted f a e) h = let z : _≡_ {A = ℕ} 0 1 = cc in absurd (omega arith)
+        to (accepted f a e) h = clash (cc)
 
         from : Answer l → Malformed r c t l → checkTask r c t l ≡ Refused 13
         from (malformed m e) n = e

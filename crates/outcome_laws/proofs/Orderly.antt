@@ -13,7 +13,7 @@ use Rattle.fra_laws.proofs.Tests.{and-left, and-right, and-intro, and-false, no
 use Rattle.fra_laws.proofs.Lists.{all-counterexample}
 use Rattle.fra_laws.proofs.Order.{before-transitive}
 use Rattle.outcome.specs.Check.{rising, orderly}
-use Rattle.outcome_laws.proofs.Tests.{tests}
+use Rattle.outcome_laws.proofs.PassedTests.{tests}
 
 rising-passes : (l : List Position) → (rising l ≡ true) ↔ Rising l
 unfolding rising

@@ -3,7 +3,7 @@ use mathlib.Core.Path.{_≡_, refl}
 use mathlib.Core.Bool.{true}
 use mathlib.Core.List.{List}
 use Rattle.fra.specs.Lists.{all}
-use Rattle.outcome_marked.specs.Cases.{Case, markedCases, furtherCases, met}
+use Rattle.outcome_marked.specs.MarkedCases.{Case, markedCases, furtherCases, met}
 
 abbrev pub AllMet : List Case → Type 0
 AllMet l = all met l ≡ true

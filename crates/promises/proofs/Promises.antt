@@ -27,19 +27,19 @@ use Rattle.outcome.specs.declared.Comparison.{Comparison}
 use Rattle.outcome.specs.declared.Comparison.the-variants.{Decided, Refused}
 use Rattle.outcome.specs.declared.Check.the-variants.{Accepted, Refused as Rejected}
 use Rattle.numbers.specs.Numbers.{Setting, Opening, Enough, LeastEnough}
-use Rattle.fra_laws.proofs.Tests.{not-both}
+use Rattle.fra_laws.proofs.Tests.{clash, not-both}
 use Rattle.fra_laws.proofs.Lost.{NeverLost}
-use Rattle.fra_laws.proofs.Rounds.{HasRank}
+use Rattle.fra_laws.proofs.Ranks.{HasRank}
 use Rattle.fra_laws.proofs.Reached.{reached-start, reached-legal}
 use Rattle.fra_laws.proofs.Bisimulation.{keptMembers, never-lost-in-bisimulation, lost-in-no-bisimulation}
-use Rattle.task_laws.proofs.Valid.{read-valid}
-use Rattle.task_laws.proofs.Refusals.{refused-exactly as unread-exactly}
-use Rattle.outcome_laws.proofs.Written.{reached-closed}
+use Rattle.task_laws.proofs.ReadValid.{read-valid}
+use Rattle.task_laws.proofs.FileRefusals.{refused-exactly as unread-exactly}
+use Rattle.outcome_laws.proofs.WrittenLists.{reached-closed}
 use Rattle.outcome_laws.proofs.Compare.{Says, refused-exactly, late-outcome}
 use Rattle.outcome_laws.proofs.Encoding.{Bytes}
 use Rattle.outcome_laws.proofs.Check.{Accepts, accepts-kept, accepts-lost, check-accepted, check-refused}
 use Rattle.outcome_laws.proofs.Conditions.{kept-start-never-lost, listed-start-lost}
-use Rattle.outcome_laws.proofs.Own.{own-kept, own-lost}
+use Rattle.outcome_laws.proofs.OwnCertificate.{own-kept, own-lost}
 use Rattle.numbers_laws.proofs.Agreement.{opening-exists, enough-iff-lost, least-enough-iff-first-lost, never-enough-iff-never-lost}
 use Rattle.comparer.proofs.compare.Statement.{statement as compare-statement}
 use Rattle.comparer.proofs.compare.Met.{met as compare-met}
@@ -92,14 +92,14 @@ module _ (file table buffer : List ℕ) where
           let late = refused-exactly equality (taskOf file) table buffer (read-valid file e) n in (
             λ h. inr (e, late .0 (sym same ∙ h)),
             ⊎-elim
-                (λ back. let d = unread-exactly file n .1 back in let z : _≡_ {A = ℕ} 0 1 = cc in absurd (omega arith))
+                (λ back. let d = unread-exactly file n .1 back in clash (cc))
                 (λ (f, h). same ∙ late .1 h),
           )
       by (Unread m) e =
           let same = ap (λ (o : Outcome). o .answer) (compared-unread equality file table buffer m e) in (
             λ h. let d : m ≡ n = cc in inl (unread-exactly file n .0 (e ∙ ap (λ (k : ℕ). Unread k) d)),
             ⊎-elim (λ back. let d = unread-exactly file n .1 back in let f : m ≡ n = cc in same ∙ ap (λ (k : ℕ). Refused k) f)
-                (λ (f, h). let z : _≡_ {A = ℕ} 0 1 = cc in absurd (omega arith)),
+                (λ (f, h). clash (cc)),
           )
 
   -- Otherwise it gives a verdict.
@@ -149,14 +149,14 @@ module _ (file certificate : List ℕ) (are-bytes : Bytes certificate) where
           let each = check-refused maxRegisters equality (taskOf file) kinds-differ certificate are-bytes n in (
             λ h. inr (e, each .0 (sym same ∙ h)),
             ⊎-elim
-                (λ back. let d = unread-exactly file n .1 back in let z : _≡_ {A = ℕ} 0 1 = cc in absurd (omega arith))
+                (λ back. let d = unread-exactly file n .1 back in clash (cc))
                 (λ (f, h). same ∙ each .1 h),
           )
       by (Unread m) e =
           let same = checked-unread equality file certificate m e in (
             λ h. let d : m ≡ n = cc in inl (unread-exactly file n .0 (e ∙ ap (λ (k : ℕ). Unread k) d)),
             ⊎-elim (λ back. let d = unread-exactly file n .1 back in let f : m ≡ n = cc in same ∙ ap (λ (k : ℕ). Rejected k) f)
-                (λ (f, h). let z : _≡_ {A = ℕ} 0 1 = cc in absurd (omega arith)),
+                (λ (f, h). clash (cc)),
           )
 
 -- ── Demand 2: EQUAL means that a symbolic bisimulation contains the start, DIFFER that there is none ──
@@ -175,7 +175,7 @@ module _ (file table buffer : List ℕ) (positions n size : ℕ) where
       never-lost-in-bisimulation bisimulation maxRegisters t (reached bisimulation t) (reached-closed valid bisimulation)
       (reached-legal valid bisimulation) (t .start) (reached-start valid bisimulation) never in
       ((λ p. p ∈ keptMembers bisimulation t (reached bisimulation t)), b, m))
-      (λ (e, rank, bound). let z : _≡_ {A = ℕ} 0 1 = cc in absurd (omega arith))
+      (λ (e, rank, bound). clash (cc))
       (verdict-start valid equality says)
 
   -- Of a comparison that is DIFFER: no set of positions whatever is one.
@@ -183,7 +183,7 @@ module _ (file table buffer : List ℕ) (positions n size : ℕ) where
       → (R : Position → Type 0) → Bisimulation bisimulation maxRegisters (taskOf file) R → R (taskOf file .start) → ⊥
   differ-means-not-bisimilar given =
       let (read, says) = decided-read equality file table buffer Differ positions n size given in
-      ⊎-elim (λ (e, never). let z : _≡_ {A = ℕ} 0 1 = cc in absurd (omega arith))
+      ⊎-elim (λ (e, never). clash (cc))
       (λ (e, rank, bound).
       lost-in-no-bisimulation bisimulation maxRegisters (taskOf file) n (taskOf file .start) (rank .lost))
       (verdict-start (read-valid file read) equality says)
@@ -208,8 +208,8 @@ module _ (file certificate : List ℕ) (are-bytes : Bytes certificate) (v : Verd
           (λ h. (e, each .0 (sym same ∙ h)), λ (f, a). same ∙ each .1 a)
       by (Unread m) e =
           let same = checked-unread equality file certificate m e in (
-            λ h. let z : _≡_ {A = ℕ} 0 1 = cc in absurd (omega arith),
-            λ (f, a). let z : _≡_ {A = ℕ} 0 1 = cc in absurd (omega arith),
+            λ h. clash (cc),
+            λ (f, a). clash (cc),
           )
 
 -- An accepted certificate of kind 16 shows that the start is never lost, one of kind 17 that it is lost within the listed rounds.
@@ -276,7 +276,7 @@ module _ (file table buffer : List ℕ) (v : Verdict) (positions n size : ℕ)
   -- The rounds never exceed the reported count of positions reached.
   pub rounds-within-positions : v ≡ Differ → n ≤ positions
   rounds-within-positions d =
-      ⊎-elim (λ (e, never). let z : _≡_ {A = ℕ} 0 1 = cc in absurd (omega arith)) (λ (e, rank, bound). bound)
+      ⊎-elim (λ (e, never). clash (cc)) (λ (e, rank, bound). bound)
       (verdict-start (read-valid file read) equality says)
 
   module _ (s : Setting) (opening : Opening maxRegisters (taskOf file) s) where
@@ -291,7 +291,7 @@ module _ (file table buffer : List ℕ) (v : Verdict) (positions n size : ℕ)
             ⊎ (v ≡ Differ) × HasRank bisimulation (taskOf file) (taskOf file .start) n × (n ≤ positions)
             → ((v ≡ Differ) × (n ≡ m)) ↔ LeastEnough bisimulation (taskOf file) m s
         by (inl (e, never)) = (
-          λ (d, f). let z : _≡_ {A = ℕ} 0 1 = cc in absurd (omega arith),
+          λ (d, f). clash (cc),
           λ h. absurd (not-both (lostWithin bisimulation (taskOf file) m (taskOf file .start)) (least .0 h .lost) (never m)),
         )
         by (inr (e, rank, bound)) = (
@@ -312,7 +312,7 @@ module _ (file table buffer : List ℕ) (v : Verdict) (positions n size : ℕ)
             → (v ≡ Equal) ↔ ((m : ℕ) → Enough bisimulation (taskOf file) m s → ⊥)
         by (inl (e, never)) = (λ d. never-enough .1 never, λ h. e)
         by (inr (e, rank, bound)) = (
-          λ d. let z : _≡_ {A = ℕ} 0 1 = cc in absurd (omega arith),
+          λ d. clash (cc),
           λ h.
               absurd
               (not-both (lostWithin bisimulation (taskOf file) n (taskOf file .start)) (rank .lost) (never-enough .0 h n)),

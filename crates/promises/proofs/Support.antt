@@ -12,6 +12,7 @@ use Rattle.fra.specs.Valid.{Valid}
 use Rattle.fra.specs.declared.Side.the-variants.{Left, Right}
 use Rattle.fra.specs.declared.Position.{Position}
 use Rattle.fra.specs.declared.Task.{Task}
+use Rattle.fra_laws.proofs.Tests.{clash}
 use Rattle.task.specs.TaskFile.{readTask, maxRegisters}
 use Rattle.task.specs.declared.Answer.{Answer}
 use Rattle.task.specs.declared.Answer.the-variants.{Read, Refused as Unread}
@@ -23,12 +24,12 @@ use Rattle.outcome.specs.Check.{checkTask, checkRead, check}
 use Rattle.outcome.specs.declared.Verdict.{Verdict}
 use Rattle.outcome.specs.declared.Check.the-variants.{Refused as Rejected}
 use Rattle.outcome.specs.declared.Comparison.the-variants.{Decided, Refused}
-use Rattle.fra_laws.proofs.Count.{most-positions}
+use Rattle.fra_laws.proofs.LegalPositions.{most-positions}
 use Rattle.fra_laws.proofs.Reached.{reached-unique, reached-legal}
 use Rattle.fra_laws.proofs.Lost.{NeverLost}
-use Rattle.fra_laws.proofs.Rounds.{HasRank, rank-least}
-use Rattle.task_laws.proofs.Valid.{read-valid, read-limits}
-use Rattle.outcome_laws.proofs.Written.{rounds-never, rounds-least}
+use Rattle.fra_laws.proofs.Ranks.{HasRank, rank-least}
+use Rattle.task_laws.proofs.ReadValid.{read-valid, read-limits}
+use Rattle.outcome_laws.proofs.WrittenLists.{rounds-never, rounds-least}
 use Rattle.outcome_laws.proofs.Compare.{Says, verdict-says}
 
 -- the task that a file holds
@@ -63,8 +64,7 @@ module _ (c : Contest) (file table buffer : List ℕ) where
       )
       by (Unread m) r =
           let d = ap (λ (o : Outcome). o .answer) (compared-unread m r) in
-          let z : _≡_ {A = ℕ} 0 1 = cc in
-          absurd (omega arith)
+          clash (cc)
 
 -- what a verdict says of the start: it is never lost, or it is lost within n rounds and not within fewer
 pub verdict-start : {r : ℕ} {t : Task} → Valid r t

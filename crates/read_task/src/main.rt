@@ -69,8 +69,11 @@ fn print_position(p: Position) {
     print_pair(partners[4], partners[5]);
 }
 
+// The longest input that is read.
+const LONGEST: usize = 131072;
+
 fn main() {
-    let mut buffer = [0u8; 131072];
+    let mut buffer = [0u8; LONGEST];
     let n = io::read_full(0, &mut buffer);
     let read = task_reader::read_task(&buffer[..n]);
     let answer = read.answer;

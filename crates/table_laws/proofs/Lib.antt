@@ -1,8 +1,6 @@
-pub mod Digits
+-- Laws of keys, of their column in the table, of sorting it and of laying it out.
 pub mod Keys
-pub mod Words
 pub mod Sorted
-pub mod Tables
-pub mod Rows
-pub mod Search
-pub mod Passes
+pub mod KeyColumn
+pub mod SortPasses
+pub mod LayingOut

@@ -1,6 +1,5 @@
--- The lent table (01, "Verdict, table, certificate") while positions are found, sorted and looked up.
-pub mod Digits
+-- The lent table (01, "Verdict, table, certificate") while positions are found and sorted, and when they are laid out.
 pub mod Keys
 pub mod Sorted
 pub mod Table
-pub mod Passes
+pub mod SortPasses

@@ -2,22 +2,18 @@
 -- the key of a position; afterwards it holds "position, then rounds".
 use Prim.Native.Nat.{ℕ, suc, _*_}
 use mathlib.Core.List.{List, [], _∷_, _++_, map, flatMap}
-use lib.ListN.{drop}
-use lib.Seq.{sets}
 use Rattle.fra.specs.Lists.{count}
 use Rattle.fra.specs.Position.{bytes}
 use Rattle.fra.specs.declared.Position.{Position}
 use Rattle.outcome.specs.Bytes.{word, wordAt, allOnes}
-use Rattle.outcome.specs.Check.{positionOf}
+use Rattle.listing.specs.Widths.{entryWidth}
+use Rattle.listing.specs.Words.{putWord}
+use Rattle.listing.specs.Listing as listing
 use Rattle.table_laws.specs.Keys.{positionFrom}
-
--- the bytes with a word written from a place on
-abbrev pub putWord : List ℕ → ℕ → ℕ → List ℕ
-putWord l i n = sets l i (word n)
 
 -- the key of entry i
 abbrev pub keyAt : List ℕ → ℕ → ℕ
-keyAt table i = wordAt table (i * 12)
+keyAt table i = wordAt table (i * entryWidth)
 
 -- the keys of the first n entries
 unfoldable pub keys : ℕ → List ℕ → List ℕ
@@ -26,7 +22,7 @@ keys n table = map (keyAt table) (count 0 n)
 -- the table with the keys of its entries replaced, from entry i on
 unfoldable pub withKeysFrom : ℕ → List ℕ → List ℕ → List ℕ
 withKeysFrom i [] table = table
-withKeysFrom i (k ∷ ks) table = withKeysFrom (suc i) ks (putWord table (i * 12) k)
+withKeysFrom i (k ∷ ks) table = withKeysFrom (suc i) ks (putWord table (i * entryWidth) k)
 
 abbrev pub withKeys : List ℕ → List ℕ → List ℕ
 withKeys ks table = withKeysFrom 0 ks table
@@ -39,10 +35,10 @@ row p rounds = bytes p ++ word rounds
 unfoldable pub laidOut : List ℕ → List ℕ
 laidOut ks = flatMap (λ k. row (positionFrom k) allOnes) ks
 
--- the position of entry i
+-- the position of entry i, whatever number of entries it is one of
 abbrev pub positionAt : List ℕ → ℕ → Position
-positionAt table i = positionOf 6 (drop (i * 12) table)
+positionAt table i = listing.positionAt (listing.ofTable (suc i)) table i
 
 -- the positions of the first n entries
-unfoldable pub positions : ℕ → List ℕ → List Position
-positions n table = map (positionAt table) (count 0 n)
+abbrev pub positions : ℕ → List ℕ → List Position
+positions n table = listing.positionsIn (listing.ofTable n) table

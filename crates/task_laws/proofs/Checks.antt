@@ -12,7 +12,7 @@ use Rattle.fra.specs.Model.{setOf, kindOf}
 use Rattle.fra.specs.declared.Model.{Model}
 use Rattle.fra.specs.declared.Task.{Task}
 use Rattle.task.specs.TaskFile.{maxRegisters, maxStates, tagCount, maxEdges, headerRefusal, stateRefusal, edgeExists, keepsRule, rises, edgeRefusal, rising, pairRefusal}
-use Rattle.task_laws.proofs.Tests.{none-of-three, none-of-four, all-of-six}
+use Rattle.task_laws.proofs.SeveralTests.{none-of-three, none-of-four, all-of-six}
 
 -- a check that refuses nothing: its test fails, and so does what comes after it
 passed : (t : Bool) (n m : ℕ) → cond t (suc n) m ≡ 0 → (t ≡ false) × (m ≡ 0)

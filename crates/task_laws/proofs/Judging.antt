@@ -18,8 +18,8 @@ use Rattle.fra.specs.declared.Model.{Model}
 use Rattle.fra.specs.declared.Task.{Task}
 use Rattle.task.specs.TaskFile.{maxRegisters, maxStates, tagCount, maxEdges, headerRefusal, stateRefusal, edgeExists, keepsRule, rises, edgeRefusal, rising, pairRefusal}
 use borrow.Author.Tests.{ltb-true, ltb-false, lt-ltb, eq-eqb, leb-true, leb-false, eqb-true, eqb-false, not-true, not-false}
-use Rattle.task_laws.proofs.Tests.{some-of-three, some-of-four, not-all-of-six}
-use Rattle.task_laws.proofs.Sets.{has-below, has-above, inside-false}
+use Rattle.task_laws.proofs.SeveralTests.{some-of-three, some-of-four, not-all-of-six}
+use Rattle.task_laws.proofs.RegisterBits.{has-below, has-above, inside-false}
 use Rattle.task_laws.proofs.Arrays.{any-at, any-index}
 use Rattle.task_laws.proofs.Checks.{HeaderFits, header-fits, StateFits, state-fits, EdgeExists, edge-exists, PairFits, pair-fits}
 use Rattle.task_laws.proofs.Models.{Whole, rule-kept}

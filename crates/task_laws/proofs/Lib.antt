@@ -1,13 +1,13 @@
 -- The laws of the task file: `read-valid` and `read-limits` (Valid), `refused-exactly` (Refusals). The other files lead up to
 -- them.
-pub mod Tests
-pub mod Sets
+pub mod SeveralTests
+pub mod RegisterBits
 pub mod Arrays
-pub mod Reading
+pub mod RunsAndHalts
 pub mod Checks
 pub mod Models
-pub mod Valid
+pub mod ReadValid
 pub mod Ties
 pub mod Judging
-pub mod Steps
-pub mod Refusals
+pub mod RecordSteps
+pub mod FileRefusals

@@ -9,16 +9,17 @@ use lib.Dec.{eqb}
 use borrow.Author.Tests.{eqb-true, eqb-false, ne-eqb}
 use Rattle.fra.specs.Lists.{below}
 use Rattle.fra.specs.Registers.{has, inside, with}
-use Rattle.fra.specs.Model.{noState, noEdge, setOf, markOf, edgeOf, edgeBytes, registerOf, kindOf}
+use Rattle.fra.specs.Model.{noState, noEdge, setOf, markOf, edgeOf, edgeBytes, kindOf}
 use Rattle.fra.specs.Valid.{RegisterRule, ValidState, ValidEdge, ValidModel}
 use Rattle.fra.specs.declared.EdgeKind.{EdgeKind}
 use Rattle.fra.specs.declared.EdgeKind.the-variants.{Known, LocallyFresh, GloballyFresh}
 use Rattle.fra.specs.declared.Edge.{Edge}
 use Rattle.fra.specs.declared.State.{State}
 use Rattle.fra.specs.declared.Model.{Model}
-use Rattle.task.specs.TaskFile.{maxRegisters, maxStates, maxEdges, headed, withState, edgeOfBody, keepsRule, rises, withEdge}
+use Rattle.task.specs.TaskFile.{maxRegisters, maxStates, tagCount, maxEdges, headed, withState, edgeOfBody, keepsRule, rises, withEdge}
 use Rattle.fra_laws.proofs.Tests.{and-left, and-right}
-use Rattle.task_laws.proofs.Sets.{has-below, inside-true}
+use Rattle.fra_laws.proofs.KindNumbers.{register-of-kind}
+use Rattle.task_laws.proofs.RegisterBits.{has-below, inside-true}
 use Rattle.task_laws.proofs.Arrays.{getD-set}
 use Rattle.task_laws.proofs.Checks.{HeaderFits, StateFits, EdgeFits}
 
@@ -86,6 +87,7 @@ pub record Begun (n : ℕ) (m : Model) : Type 0 where
 -- a model with all its states, and edges
 pub record Whole (m : Model) : Type 0 where
   pub valid : ValidModel maxRegisters m
+  pub tags : (k : ℕ) → k < m .«edge_count» → edgeOf m k .tag < tagCount
   pub state-array : length (m .states) ≡ maxStates
   pub edge-array : length (m .edges) ≡ maxEdges
 
@@ -143,6 +145,7 @@ begun-whole h e =
         edges = λ k b. absurd (omega arith);
         rising = λ k b. absurd (omega arith);
       };
+      tags = λ k b. absurd (omega arith);
       state-array = h .state-array;
       edge-array = h .edge-array;
     }
@@ -157,11 +160,6 @@ rule-kept r from to (Known i) existing h = (
 rule-kept r from to (LocallyFresh i) existing h = inside-true r to (with from i) existing h
 rule-kept r from to (GloballyFresh i) existing h = inside-true r to (with from i) existing h
 
-register-read : (kind i : ℕ) → registerOf (kindOf kind i) ≡ i
-register-read zero i = refl
-register-read (suc zero) i = refl
-register-read (suc (suc kind)) i = refl
-
 -- an edge that is read is valid
 edge-valid : {m : Model} {from tag kind i to : ℕ} → Whole m → EdgeFits m from tag kind i to
     → ValidEdge m (edgeOfBody (from ∷ tag ∷ kind ∷ i ∷ to ∷ []))
@@ -170,8 +168,8 @@ edge-valid {m} {from} {tag} {kind} {i} {to} h f =
     record {
       from = f .exists .from-exists;
       to = f .exists .to-exists;
-      least = rw (register-read kind i) (f .exists .register-least);
-      greatest = rw (register-read kind i) (f .exists .register-exists);
+      least = rw (register-of-kind kind i) (f .exists .register-least);
+      greatest = rw (register-of-kind kind i) (f .exists .register-exists);
       rule =
           rule-kept (m .registers) (setOf m from) (setOf m to) (kindOf kind i)
           (h .valid .states to (f .exists .to-exists) .existing) (f .rule);
@@ -221,10 +219,21 @@ valid-withEdge {r} {m} e h v above room =
 
 pub whole-withEdge : {m : Model} {from tag kind i to : ℕ} → Whole m → EdgeFits m from tag kind i to
     → Whole (withEdge m (edgeOfBody (from ∷ tag ∷ kind ∷ i ∷ to ∷ [])))
-unfolding withEdge
+unfolding withEdge edgeOfBody
 whole-withEdge {m} {from} {tag} {kind} {i} {to} h f =
     record {
+      tags = λ k b. tag-at k b (eqb (m .«edge_count») k) refl;
       valid = valid-withEdge (edgeOfBody (from ∷ tag ∷ kind ∷ i ∷ to ∷ [])) (h .valid) (edge-valid h f) (edge-above f) (omega (arith, f .room));
       state-array = h .state-array;
       edge-array = length-set (m .edges) (m .«edge_count») _ ∙ h .edge-array;
     }
+  where
+    e : Edge
+    e = edgeOfBody (from ∷ tag ∷ kind ∷ i ∷ to ∷ [])
+
+    tag-at : (k : ℕ) → k < m .«edge_count» + 1 → (t : Bool) → eqb (m .«edge_count») k ≡ t → edgeOf (withEdge m e) k .tag < tagCount
+    tag-at k b t d = rw (edgeOf-withEdge m e (omega (arith, f .room)) k, d) (at t d)
+      where
+        at : (t : Bool) → eqb (m .«edge_count») k ≡ t → cond t e (edgeOf m k) .tag < tagCount
+        at true d = f .exists .tag-exists
+        at false d = h .tags k (omega (arith, eqb-false (m .«edge_count») k d))

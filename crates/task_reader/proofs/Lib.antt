@@ -1,3 +1,3 @@
 -- Lemmas on the rest of a file and on the state that is due.
-pub mod Kept
-pub mod Rest
+pub mod StateDueKept
+pub mod RestOfFile

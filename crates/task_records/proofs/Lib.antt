@@ -1,5 +1,5 @@
 -- Lemmas that the proofs of the functions share.
 pub mod Chains
-pub mod Places
-pub mod Rules
-pub mod Steps
+pub mod OutOfPlace
+pub mod RuleTests
+pub mod StepResults

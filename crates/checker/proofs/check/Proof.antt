@@ -1,42 +1,50 @@
--- `checker::check` meets its contract: a task that is read is valid. Assumes nothing.
-use mathlib.Core.Path.{sym, _∙_, ap}
+-- `checker::check` meets its contract: a task that is read has an index, and its certificate is checked over it. Assumes nothing.
+use mathlib.Core.Path.{_≡_, sym, _∙_, ap}
 use Rattle.outcome.specs.Check.{checkRead, check}
+use Rattle.task.specs.TaskFile.{readTask}
+use Rattle.task.specs.declared.Answer.the-variants.{Read}
 use Rattle.task.specs.declared.TaskRead.{TaskRead}
-use Rattle.task_laws.proofs.Valid.{read-valid}
+use Rattle.task_laws.proofs.ReadValid.{read-valid, read-tags}
+use Rattle.game_indexing.proofs.Indexed.{index-of}
 use borrow.Author.Needs.{needs}
 use Rattle.checker.proofs.check.Statement.{statement}
 use Rattle.checker.proofs.check.Tie as tie
 
-read-task-requires : tie.Need-read-task-requires
-read-task-requires c κs = search needs
-
-enum-told : tie.Need-enum-told
-enum-told c = search needs
-
-check-task-requires : tie.Need-check-task-requires
-check-task-requires c κs =
-    let read = c .before .before .before in
-    let a = read .before .before .before .args in
-    rw (read .read-task .ensures)
-    (read-valid (a .file .now) (sym (ap (λ (x : TaskRead). x .answer) (read .read-task .ensures)) ∙ c .enum-told .given .1))
-
-enum-known-answer : tie.Need-enum-known-answer
-enum-known-answer c = search needs
+is-read : (c : tie.After-enum-told) → readTask (c .before .before .before .before .before .args .file .now) .answer ≡ Read
+is-read c = sym (ap (λ (x : TaskRead). x .answer) (c .before .before .read-task .ensures)) ∙ c .enum-told .given .1
 
 returns : tie.Need-returns
 unfolding check checkRead
 returns c =
     let told = c .before in
-    let read = told .before .before .before in
-    rw (← read .read-task .ensures, told .enum-told .given .1) (c .check-task .ensures)
+    rw (← told .before .before .read-task .ensures, told .answer .given .1)
+
+of-requires : tie.Need-of-requires
+of-requires c κs =
+    let read = c .before .before in
+    let file = read .before .before .before .args .file .now in
+    rw (read .read-task .ensures) (record { valid = read-valid file (is-read c); tags = read-tags file (is-read c) })
+
+check-indexed-requires : tie.Need-check-indexed-requires
+check-indexed-requires c κs = index-of (c .before .of .ensures) .index
 
 returns-2 : tie.Need-returns-2
 unfolding check checkRead
 returns-2 c =
-    let read = c .before .before .before .before in
-    rw (← read .read-task .ensures, c .before .answer .given .1)
+    let made = c .before .before in
+    let told = made .before in
+    let indexed = index-of (made .of .ensures) in
+    rw (← told .before .before .read-task .ensures, told .enum-told .given .1)
+    (rw (indexed .task, indexed .rules) at (c .check-indexed .ensures))
 
 pub check-spec : {M : Type 1} → statement M
 check-spec =
     tie.close
-    (tie.spec read-task-requires enum-told check-task-requires enum-known-answer returns returns-2)
+    (tie.spec
+    (λ c κs. search needs)
+    (λ c. search needs)
+    returns
+    (λ c. search needs)
+    of-requires
+    check-indexed-requires
+    returns-2)

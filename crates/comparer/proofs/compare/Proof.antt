@@ -1,54 +1,48 @@
--- `comparer::compare` meets its contract: a refusal of the file, or what its task gives. Assumes nothing.
+-- `comparer::compare` meets its contract: a refusal of the file, or what its task's index gives. Assumes nothing.
 use denote.Ref.{now}
 use borrow.Author.Needs.{needs}
-use Rattle.task_laws.proofs.Valid.{read-valid}
+use Rattle.task_laws.proofs.ReadValid.{read-valid, read-tags}
+use Rattle.game_indexing.proofs.Indexed.{index-of}
 use Rattle.comparer.proofs.Outcomes.{unread, read-compared}
 use Rattle.comparer.proofs.compare.Statement.{statement}
 use Rattle.comparer.proofs.compare.Tie as tie
 
-read-task-requires : tie.Need-read-task-requires
-read-task-requires c κs = search needs
-
-enum-known-answer : tie.Need-enum-known-answer
-enum-known-answer c = search needs
-
 returns : tie.Need-returns
 returns c =
-    let start = c .before .before .before .before .before .before .before in
-    unread (now (start .args .file)) (now (start .args .table)) (now (start .args .certificate))
-    (rw (c .before .before .before .read-task .ensures) at (c .before .answer .given .1))
+    let read = c .before .before .before in
+    let a = read .before .before .before .before .args in
+    unread (now (a .file)) (now (a .table)) (now (a .certificate)) (rw (read .read-task .ensures) at (c .before .answer .given .1))
 
-enum-told : tie.Need-enum-told
-enum-told c = search needs
+of-requires : tie.Need-of-requires
+of-requires c κs =
+    let read = c .before .before in
+    let file = now (read .before .before .before .before .args .file) in
+    let answered = rw (read .read-task .ensures) at (c .enum-told .given .1) in
+    rw (read .read-task .ensures) (record { valid = read-valid file answered; tags = read-tags file answered })
 
-compare-task-requires : tie.Need-compare-task-requires
-compare-task-requires c κs =
-    let read = c .before .before .before .before .read-task .ensures in
-    rw read (read-valid (now (c .before .before .before .before .before .before .before .before .args .file)) (rw read at (c .before .before .enum-told .given .1)))
-
-same-length : tie.Need-same-length
-same-length c = search needs
-
-same-length-2 : tie.Need-same-length-2
-same-length-2 c = search needs
+compare-indexed-requires : tie.Need-compare-indexed-requires
+compare-indexed-requires c κs = index-of (c .before .before .before .of .ensures) .index
 
 returns-2 : tie.Need-returns-2
 returns-2 c =
-    let start = c .before .before .before .before .before .before .before .before .before .before .before .before .before in
-    let read = c .before .before .before .before .before .before .before .before .before .read-task .ensures in
-    read-compared (now (start .args .file)) (now (start .args .table)) (now (start .args .certificate))
-    (rw read at (c .before .before .before .before .before .before .before .enum-told .given .1))
-    (rw read at (c .before .before .before .before .compare-task .ensures))
+    let compared = c .before .before .before .before in
+    let made = compared .before .before .before .before in
+    let read = made .before .before .before in
+    let a = read .before .before .before .before .args in
+    let h = index-of (made .of .ensures) in
+    read-compared (now (a .file)) (now (a .table)) (now (a .certificate)) (rw (read .read-task .ensures) at (made .before .enum-told .given .1))
+    (rw (h .task, h .rules, read .read-task .ensures) at (compared .compare-indexed .ensures))
 
 pub compare-spec : {M : Type 1} → statement M
 compare-spec =
     tie.close
     (tie.spec
-    read-task-requires
-    enum-known-answer
+    (λ c κs. search needs)
+    (λ c. search needs)
     returns
-    enum-told
-    compare-task-requires
-    same-length
-    same-length-2
+    (λ c. search needs)
+    of-requires
+    compare-indexed-requires
+    (λ c. search needs)
+    (λ c. search needs)
     returns-2)

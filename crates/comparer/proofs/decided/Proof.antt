@@ -7,19 +7,13 @@ use Rattle.outcome.specs.Compare.{decided}
 use Rattle.comparer.proofs.decided.Statement.{statement}
 use Rattle.comparer.proofs.decided.Tie as tie
 
-cast-t6 : tie.Need-cast-t6
-cast-t6 c = search needs
-
 returns : tie.Need-returns
 unfolding decided
 returns c = rw (eq-eqb (c .before .args .rounds) allOnes (search needs)) refl
-
-cast-t8 : tie.Need-cast-t8
-cast-t8 c = search needs
 
 returns-2 : tie.Need-returns-2
 unfolding decided
 returns-2 c = rw (ne-eqb (c .before .args .rounds) allOnes (search needs)) refl
 
 pub decided-spec : {M : Type 1} → statement M
-decided-spec = tie.close (tie.spec cast-t6 returns cast-t8 returns-2)
+decided-spec = tie.close (tie.spec (λ c. search needs) returns (λ c. search needs) returns-2)

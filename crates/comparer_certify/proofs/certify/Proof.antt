@@ -1,126 +1,96 @@
--- `comparer_certify::certify` meets its contract: the start is never lost and nothing is marked, or it is lost and marks stand while
--- records are written. Assumes nothing.
-use Prim.Native.Nat.{_^_, _<_}
-use mathlib.Core.Path.{_≡_, sym, _∙_}
-use native.Mathlib.Omega.{arith}
-use lib.ListN.{length}
+-- `comparer_certify::certify` meets its contract: the start is never lost and nothing is marked, or it is lost and marks stand
+-- while records are written. Assumes nothing.
+use mathlib.Core.Path.{_≡_, _∙_}
 use denote.Ref.{now}
 use borrow.Author.Needs.{needs}
-use Rattle.fra.specs.Rules.{bisimulation}
-use Rattle.fra.specs.Reach.{reached}
 use Rattle.outcome.specs.declared.Verdict.the-variants.{Differ}
-use Rattle.fra_laws.proofs.Lengths.{length-of-map}
-use Rattle.old_index.specs.Index.{Indexed}
-use Rattle.game_wins.specs.Judgement.{Searchable}
-use Rattle.comparer_certify_laws.specs.Records.{recordsOf}
-use Rattle.comparer_certify_laws.proofs.Kept.{kept-prepared, searchable-kept}
-use Rattle.comparer_certify.specs.Outcome.{certificateOf}
-use Rattle.comparer_certify.proofs.Certificates.{few-positions, searchable, never-lost, Lost, lost}
+use Rattle.listing.specs.Listing.{ofTable, Searchable}
+use Rattle.game_index.specs.Reading.{taskIn}
+use Rattle.comparer_certify_laws.specs.Marking.{roundsFor}
+use Rattle.comparer_certify_laws.proofs.StillSearchable.{kept-prepared, searchable-kept}
+use Rattle.comparer_certify.specs.RecordFields.{recordsIn}
+use Rattle.comparer_certify.specs.CertifyAnswers.{certificateIn}
+use Rattle.comparer_certify.proofs.RankedCertificates.{searchable, never-lost, Lost, lost}
 use Rattle.comparer_certify.proofs.certify.Statement.{statement}
 use Rattle.comparer_certify.proofs.certify.Tie as tie
 
-few : (c : tie.Start) → length (reached bisimulation (c .args .t)) < 2 ^ 30
-few c =
-    let left : length (c .args .t .left .states) ≡ 16 = search (needs, length-of-map) in
-    let right : length (c .args .t .right .states) ≡ 16 = search (needs, length-of-map) in
-    few-positions (c .pre .0) left right
-
-edges-requires : tie.Need-edges-requires
-edges-requires c κs = search needs
-
-edges-requires-2 : tie.Need-edges-requires-2
-edges-requires-2 c κs = search needs
-
-states-requires : tie.Need-states-requires
-states-requires c κs = search needs
-
--- the index is that of the task
-indexed : (c : tie.After-states)
-    → Indexed (c .before .before .before .before .before .args .t) (c .before .before .edges .result) (c .before .edges2 .result) (c .states .result)
-indexed c =
-    record {
-      left = c .before .before .edges .ensures;
-      right = c .before .edges2 .ensures;
-      states = c .states .ensures;
-    }
+-- positions can be looked up at first
+ready : (c : tie.Start) → Searchable (ofTable (c .args .n)) (now (c .args .table))
+ready c = searchable (c .pre .0) (c .pre .1)
 
 rounds-of-requires : tie.Need-rounds-of-requires
-rounds-of-requires c κs =
-    let start = c .before .before .before .before .before .before .before in
-    searchable (start .pre .0) (few start) (start .pre .1)
+rounds-of-requires c κs = ready (c .before .before .before .before)
+
+-- the rounds that are read are the start's
+read : (c : tie.After-rounds-of) → let start = c .before .before .before .before .before in
+    roundsFor (start .args .n) (taskIn (now (start .args .index)) .start) (now (start .args .table)) ≡ c .rounds-of .result
+unfolding taskIn
+read c = rw (c .rounds-of .ensures, c .before .start .ensures)
 
 write-requires : tie.Need-write-requires
 write-requires c κs =
-    let read = c .before .before .before .before .before .before .before .before .before in
-    let start = read .before .before .before .before .before in
-    (searchable (start .pre .0) (few start) (start .pre .1), (indexed read, omega (arith, few start, start .pre .1 .counted)))
-
-same-length : tie.Need-same-length
-same-length c = search needs
-
-same-length-2 : tie.Need-same-length-2
-same-length-2 c = search needs
+    let begun = c .before .before .before in
+    let start = begun .before .before .before .before .before in
+    (ready start, start .pre .0)
 
 returns : tie.Need-returns
 returns c =
     let done = c .before .before in
-    let told = done .before .before .before .before .before .before in
-    let start = told .before .before .before .before .before .before .before .before .before in
-    rw (← never-lost (start .pre .0) (few start) (start .pre .1) (sym (told .before .rounds-of .ensures) ∙ told .if1 .taken))
-    (done .write .ensures)
+    let never = done .before .before .before in
+    let begun = never .before in
+    let start = begun .before .before .before .before .before in
+    rw (← never-lost (start .pre .0) (start .pre .1) (read begun ∙ never .if1 .taken)) (done .write .ensures)
 
 -- what holds of a start that is lost
-attacked : (c : tie.Else1)
-    → Lost (c .before .before .before .before .before .before .before .before .before .pre .0) (few (c .before .before .before .before .before .before .before .before .before))
-    (c .before .before .before .before .before .before .before .before .before .pre .1)
-    (c .before .rounds-of .result)
-attacked c =
-    let start = c .before .before .before .before .before .before .before .before .before in
-    lost (start .pre .0) (few start) (start .pre .1) _ (sym (c .before .rounds-of .ensures)) (c .if1 .left)
+facts : (c : tie.Else1) → let begun = c .before in
+    let start = begun .before .before .before .before .before in
+    Lost (start .pre .0) (start .pre .1) (begun .rounds-of .result)
+facts c =
+    let begun = c .before in
+    let start = begun .before .before .before .before .before in
+    lost (start .pre .0) (start .pre .1) _ (read begun) (c .if1 .left)
 
 prepare-requires : tie.Need-prepare-requires
 prepare-requires c κs =
-    let told = c .before .before .before .before in
-    let read = told .before .before .before .before in
-    let start = read .before .before .before .before .before in
-    (searchable (start .pre .0) (few start) (start .pre .1), (indexed read, attacked told .small))
+    let attacked = c .before in
+    let begun = attacked .before in
+    let start = begun .before .before .before .before .before in
+    (ready start, (start .pre .0, facts attacked .small))
 
 -- positions can be looked up while marks stand
-marked : (c : tie.After-prepare) → Searchable (c .before .before .before .before .before .before .before .before .before .before .before .before .before .before .args .n) (c .prepare .last .0)
+marked : (c : tie.After-prepare) → let begun = c .before .before .before in
+    let start = begun .before .before .before .before .before in
+    Searchable (ofTable (start .args .n)) (c .prepare .last .0)
 marked c =
-    let start = c .before .before .before .before .before .before .before .before .before .before .before .before .before .before in
-    rw (c .prepare .ensures)
-    (searchable-kept (searchable (start .pre .0) (few start) (start .pre .1))
-    (kept-prepared bisimulation (start .args .t) (start .args .n) (c .before .before .before .before .before .before .rounds-of .result) (now (start .args .table))))
+    let begun = c .before .before .before in
+    let start = begun .before .before .before .before .before in
+    rw (c .prepare .ensures) (searchable-kept (ready start) (kept-prepared _ _ _ _ (now (start .args .table))))
 
 write-requires-2 : tie.Need-write-requires-2
 write-requires-2 c κs =
-    let prepared = c .before .before .before .before .before .before .before in
-    let read = prepared .before .before .before .before .before .before .before .before .before in
-    let start = read .before .before .before .before .before in
-    (marked prepared, (indexed read, omega (arith, few start, start .pre .1 .counted)))
+    let prepared = c .before .before .before .before in
+    let begun = prepared .before .before .before in
+    let start = begun .before .before .before .before .before in
+    (marked prepared, start .pre .0)
 
 rescale-requires : tie.Need-rescale-requires
-rescale-requires c κs = marked (c .before .before .before .before .before .before .before .before .before .before .before) .room
-
-same-length-3 : tie.Need-same-length-3
-same-length-3 c = search needs
-
-same-length-4 : tie.Need-same-length-4
-same-length-4 c = search needs
+rescale-requires c κs =
+    let done = c .before .before .before in
+    marked (done .before .before .before .before .before) .fitting
 
 returns-2 : tie.Need-returns-2
 returns-2 c =
     let halved = c .before .before in
     let done = halved .before .before .before .before in
-    let prepared = done .before .before .before .before .before .before .before .before in
-    let facts = attacked (prepared .before .before .before .before .before) in
-    let a = prepared .before .before .before .before .before .before .before .before .before .before .before .before .before .before .args in
-    let whole : recordsOf bisimulation (a .t) Differ (a .n) (prepared .prepare .last .0) ≡ certificateOf (a .t) =
-    rw (prepared .prepare .ensures) (facts .certificate) in
+    let prepared = done .before .before .before .before .before in
+    let attacked = prepared .before .before in
+    let begun = attacked .before in
+    let a = begun .before .before .before .before .before .args in
+    let whole : recordsIn (now (a .index)) Differ (a .n) (prepared .prepare .last .0) ≡ certificateIn (now (a .index)) =
+    rw (prepared .prepare .ensures) (facts attacked .certificate) in
     record {
       answers = rw (← whole) (done .write2 .ensures .answers);
-      restored = rw (halved .rescale .ensures, prepared .prepare .ensures) (facts .restored);
+      restored = rw (halved .rescale .ensures, prepared .prepare .ensures) (facts attacked .restored);
       written = rw (← whole) (done .write2 .ensures .written);
     }
 
@@ -128,17 +98,15 @@ pub certify-spec : {M : Type 1} → statement M
 certify-spec =
     tie.close
     (tie.spec
-    edges-requires
-    edges-requires-2
-    states-requires
+    (λ c κs. search needs)
     rounds-of-requires
     write-requires
-    same-length
-    same-length-2
+    (λ c. search needs)
+    (λ c. search needs)
     returns
     prepare-requires
     write-requires-2
     rescale-requires
-    same-length-3
-    same-length-4
+    (λ c. search needs)
+    (λ c. search needs)
     returns-2)

@@ -1,64 +1,58 @@
 -- `comparer_leads::lead` meets its contract: an attack was found, or there is none and nothing to mark. Assumes nothing.
-use mathlib.Core.Path.{sym, _∙_}
+use mathlib.Core.Path.{_≡_, sym, _∙_}
 use denote.Ref.{now}
-use Rattle.fra.specs.Rules.{bisimulation}
-use Rattle.comparer_certify_laws.proofs.Marking.{led-by, led-exists, led-nowhere}
 use borrow.Author.Needs.{needs}
+use Rattle.listing.specs.Listing.{ofTable, positionAt}
+use Rattle.game_index.specs.Reading.{taskIn, rulesIn}
+use Rattle.game_wins.specs.Wins.{winOf}
+use Rattle.game_wins.proofs.WinAnswers.{winner-none, winner-some}
+use Rattle.comparer_certify_laws.specs.Marking.{attackBy}
+use Rattle.comparer_certify_laws.proofs.Marking.{led-by, led-nowhere}
 use Rattle.comparer_leads.proofs.lead.Statement.{statement}
 use Rattle.comparer_leads.proofs.lead.Tie as tie
 
+-- the answer is the attack of the entry's position
+won : (c : tie.After-attack-of) → let placed = c .before .before in
+    let start = placed .before .before .before .before in
+    let a = start .args in
+    let b = now (a .index) in
+    c .attack-of .result
+    ≡ winOf (attackBy (rulesIn b) (taskIn b) (a .n) (now (a .table)) (a .k) (positionAt (ofTable (a .n)) (now (a .table)) (a .i)))
+won c =
+    let placed = c .before .before in
+    c .attack-of .ensures ∙ rw (placed .position-at .ensures, placed .before .of-table .ensures)
+
 position-at-requires : tie.Need-position-at-requires
-position-at-requires c κs = search needs
-
-attack-of-requires : tie.Need-attack-of-requires
-attack-of-requires c κs = search needs
-
-enum-known-attack : tie.Need-enum-known-attack
-enum-known-attack c = search needs
-
-enum-told : tie.Need-enum-told
-enum-told c = search needs
-
-same-length : tie.Need-same-length
-same-length c = search needs
+position-at-requires c κs =
+    let start = c .before .before .before in
+    rw (c .of-table .ensures) (start .pre .0 .fitting, start .pre .1 .2)
 
 returns : tie.Need-returns
-returns c = λ t h.
-    let won = c .before .before in
-    let placed = won .before .before in
-    let a = placed .before .before .before .args in
-    sym
-    (led-nowhere bisimulation t (a .n) (a .k) (a .i) (now (a .table))
-    (rw (← placed .position-at .ensures) (sym (won .attack-of .ensures t h) ∙ c .enum-told .given .1)))
-
-mark-leads-requires : tie.Need-mark-leads-requires
-mark-leads-requires c κs = search needs
-
-same-length-2 : tie.Need-same-length-2
-same-length-2 c = search needs
+returns c =
+    let searched = c .before .before in
+    sym (led-nowhere _ _ _ _ _ _ (winner-none _ (sym (won searched) ∙ c .enum-told .given .1)))
 
 returns-2 : tie.Need-returns-2
-returns-2 c = λ t h.
-    let done = c .before .before in
-    let found = done .before .before .before in
-    let won = found .before .before in
-    let placed = won .before .before in
-    let a = placed .before .before .before .args in
-    let by = rw (placed .position-at .ensures) at (sym (won .attack-of .ensures t h) ∙ found .attack .given .1) in
-    done .mark-leads .ensures t h (led-exists bisimulation t (a .n) (a .k) (a .i) (now (a .table)) (found .attack .given .0 .0) by)
-    ∙ rw (placed .position-at .ensures)
-    (sym (led-by bisimulation t (a .n) (a .k) (a .i) (now (a .table)) (found .attack .given .0 .0) by))
+returns-2 c =
+    let marked = c .before .before in
+    let found = marked .before .before .before in
+    let searched = found .before .before in
+    let placed = searched .before .before in
+    marked .mark-replies .ensures
+    ∙ rw (placed .position-at .ensures, placed .before .of-table .ensures)
+    (sym (led-by _ _ _ _ _ _ (winner-some _ (sym (won searched) ∙ found .attack .given .1))))
 
 pub lead-spec : {M : Type 1} → statement M
 lead-spec =
     tie.close
     (tie.spec
+    (λ c κs. search needs)
     position-at-requires
-    attack-of-requires
-    enum-known-attack
-    enum-told
-    same-length
+    (λ c κs. search needs)
+    (λ c. search needs)
+    (λ c. search needs)
+    (λ c. search needs)
     returns
-    mark-leads-requires
-    same-length-2
+    (λ c κs. search needs)
+    (λ c. search needs)
     returns-2)

@@ -1,91 +1,72 @@
 -- `comparer_leads::pass` meets its contract. The loop's invariant: the pass has gone over the first `i` entries. Assumes nothing.
-use Prim.Native.Nat.{ℕ, _-_, _≤_}
-use mathlib.Core.Path.{_≡_, refl, sym, _∙_, subst}
+use Prim.Native.Nat.{_-_, _≤_}
+use mathlib.Core.Path.{_≡_, refl, sym, _∙_}
 use mathlib.Core.Logic.{⊎-elim}
 use native.Mathlib.Omega.{arith}
 use borrow.Author.Needs.{needs}
-use Rattle.fra.specs.Rules.{bisimulation}
-use Rattle.old_index.specs.Index.{ForTask}
-use Rattle.comparer_certify_laws.specs.Marking.{passed}
+use Rattle.game_index.specs.Reading.{taskIn, rulesIn}
+use Rattle.comparer_certify_laws.specs.Marking.{roundsOf, passed}
 use Rattle.comparer_certify_laws.proofs.Marking.{pass-taken, pass-left}
-use Rattle.comparer_certify_laws.proofs.Kept.{Kept, kept-refl, kept-trans, kept-led, searchable-kept}
+use Rattle.comparer_certify_laws.proofs.StillSearchable.{Kept, kept-refl, kept-trans, kept-led, fitting-kept, searchable-kept}
 use Rattle.comparer_leads.proofs.pass.Statement.{statement}
 use Rattle.comparer_leads.proofs.pass.Tie as tie
 
 abbrev Inv-loop : tie.InvT-loop
-Inv-loop table₀ n left right states k i₀ table i =
-    (i ≤ n) × Kept n table₀ table × ForTask left right states table (λ t. passed bisimulation t n k i table₀)
+Inv-loop table₀ n index k entries i₀ table i =
+    (i ≤ n) × Kept n table₀ table × (table ≡ passed (rulesIn index) (taskIn index) n k i table₀)
 
 abbrev μ-loop : tie.MeasureT-loop
-μ-loop table₀ n left right states k i₀ table i = n - i
+μ-loop table₀ n index k entries i₀ table i = n - i
+
+-- the rounds that are read are those of entry i
+read : (c : tie.After-rounds-at Inv-loop μ-loop) → let at-loop = c .before .before .before in
+    c .rounds-at .result ≡ roundsOf (at-loop .loop .table) (at-loop .loop .i)
+read c = let at-loop = c .before .before .before in c .rounds-at .ensures ∙ rw (at-loop .before .of-table .ensures)
 
 loop-holds : tie.Need-loop-holds Inv-loop μ-loop
 unfolding passed
-loop-holds c = (search needs, kept-refl _ _, λ t h. refl)
+loop-holds c = (search needs, kept-refl _ _, refl)
 
-mul-word-at : tie.Need-mul-word-at Inv-loop μ-loop
-mul-word-at c = search needs
-
-add-word-at : tie.Need-add-word-at Inv-loop μ-loop
-add-word-at c = search needs
-
-word-at-requires : tie.Need-word-at-requires Inv-loop μ-loop
-word-at-requires c κs = search needs
-
-mul-if1 : tie.Need-mul-if1 Inv-loop μ-loop
-mul-if1 c = search needs
-
-add-if1 : tie.Need-add-if1 Inv-loop μ-loop
-add-if1 c = search needs
+rounds-at-requires : tie.Need-rounds-at-requires Inv-loop μ-loop
+rounds-at-requires c κs =
+    let turn = c .before in
+    let at-loop = turn .before in
+    let entries = at-loop .before in
+    rw (entries .of-table .ensures)
+    (fitting-kept (entries .before .before .pre .0 .fitting) (at-loop .loop .inv .1), turn .loop-test .taken)
 
 lead-requires : tie.Need-lead-requires Inv-loop μ-loop
 lead-requires c κs =
-    let here = c .before .before .before .before .before .loop in
-    let start = c .before .before .before .before .before .before .before in
-    (searchable-kept (start .pre .0) (here .inv .1), (start .pre .1 .1, omega arith))
-
-add-i : tie.Need-add-i Inv-loop μ-loop
-add-i c = search needs
-
-loop-less : tie.Need-loop-less Inv-loop μ-loop
-loop-less c = search needs
+    let turn = c .before .before .before .before in
+    let at-loop = turn .before in
+    let start = at-loop .before .before .before in
+    (searchable-kept (start .pre .0) (at-loop .loop .inv .1), (start .pre .1 .0, start .pre .1 .1, turn .loop-test .taken))
 
 loop-again : tie.Need-loop-again Inv-loop μ-loop
 loop-again c =
-    let read = c .before in
-    let here = read .before .before .before .loop in
-    let start = read .before .before .before .before .before in
-    let a = start .args in
+    let at-loop = c .before .before .before .before in
+    let (within, kept, is) = at-loop .loop .inv in
     ⊎-elim
     (λ w. (
       omega arith,
-      kept-trans (here .inv .1) (rw (w .5, w .2 .ensures (a .t) (start .pre .1 .0)) (kept-led bisimulation (a .t) (a .n) (a .k) (here .i) (here .table))),
-      λ t h.
-          w .5
-          ∙ w .2 .ensures t h
-          ∙ pass-taken bisimulation t (a .n) (a .k) (here .i) (a .table .now) (here .table) (here .inv .2 t h)
-          (sym (read .word-at .ensures) ∙ w .0 .taken),
+      kept-trans kept (rw (w .5, w .2 .ensures) (kept-led _ _ _ _ _ (at-loop .loop .table))),
+      w .5 ∙ w .2 .ensures ∙ pass-taken _ _ _ _ _ _ _ is (sym (read (c .before)) ∙ w .0 .taken),
     ))
     (λ w. (
       omega arith,
-      rw (w .1) (here .inv .1),
-      λ t h.
-          w .1
-          ∙ pass-left bisimulation t (a .n) (a .k) (here .i) (a .table .now) (here .table) (here .inv .2 t h)
-          (λ e. w .0 .left (read .word-at .ensures ∙ e)),
+      rw (w .1) kept,
+      w .1 ∙ pass-left _ _ _ _ _ _ _ is (λ e. w .0 .left (read (c .before) ∙ e)),
     ))
     (c .if1 .came)
 
 same-length : tie.Need-same-length Inv-loop μ-loop
-same-length c = search needs
+same-length c = c .before .loop .inv .1 .size
 
 returns : tie.Need-returns Inv-loop μ-loop
 returns c =
-    let at = c .before .loop in
-    let start = c .before .before .before in
-    let a = start .args in
-    let full : at .i ≡ a .n = omega arith in
-    subst (λ (i : ℕ). at .table ≡ passed bisimulation (a .t) (a .n) (a .k) i (a .table .now)) full (at .inv .2 (a .t) (start .pre .1 .0))
+    let at-loop = c .before in
+    let full : at-loop .loop .i ≡ at-loop .before .before .before .args .n = omega arith in
+    rw full at (at-loop .loop .inv .2)
 
 pub pass-spec : {M : Type 1} → statement M
 pass-spec =
@@ -93,15 +74,14 @@ pass-spec =
     (tie.spec
     Inv-loop
     μ-loop
+    (λ c κs. search needs)
     loop-holds
-    mul-word-at
-    add-word-at
-    word-at-requires
-    mul-if1
-    add-if1
+    rounds-at-requires
+    (λ c. search needs)
+    (λ c. search needs)
     lead-requires
-    add-i
-    loop-less
+    (λ c. search needs)
+    (λ c. search needs)
     loop-again
     same-length
     returns)

@@ -1,83 +1,96 @@
 -- `comparer_marks::mark` meets its contract: a place that is found is that of one of the n entries. Assumes nothing.
-use Prim.Native.Nat.{_+_, _*_, _≤_}
-use mathlib.Core.Path.{sym, _∙_}
+use Prim.Native.Nat.{_+_, _*_, _≤_, _<_}
+use mathlib.Core.Path.{_≡_, sym, _∙_}
 use native.Mathlib.Omega.{arith}
 use lib.ListN.{length}
 use denote.Ref.{now}
 use borrow.Author.Needs.{needs}
+use Rattle.listing.specs.Widths.{entryWidth}
+use Rattle.listing.specs.Listing.{ofTable, positionsIn}
+use Rattle.listing.specs.Lookup.{placeOf}
+use Rattle.listing.specs.declared.Place.the-variants.{At}
+use Rattle.listing.proofs.PositionNumbers.{record-room}
 use Rattle.comparer_certify_laws.specs.Marking.{marked}
-use Rattle.comparer_certify_laws.proofs.Kept.{found-room}
+use Rattle.comparer_certify_laws.proofs.StillSearchable.{found-entry}
 use Rattle.comparer_marks.proofs.mark.Statement.{statement}
 use Rattle.comparer_marks.proofs.mark.Tie as tie
 
--- the entry lies in the table
-room : (c : tie.After-known-told)
-    → c .before .place .given .0 .0 * 12 + 12 ≤ length (now (c .before .before .before .before .before .before .args .table))
+-- the place is that of the position
+found : (c : tie.After-known-told) → let entries = c .before .before .before .before .before in
+    let a = entries .before .before .args in
+    placeOf (a .q) (positionsIn (ofTable (a .n)) (now (a .table))) ≡ At (c .before .place .given .0 .0)
+found c =
+    let searched = c .before .before .before in
+    rw (searched .before .before .of-table .ensures) at (sym (searched .find .ensures) ∙ c .before .place .given .1)
+
+-- the entry is one of the n, and lies in the table
+within : (c : tie.After-known-told) → let entries = c .before .before .before .before .before in
+    c .before .place .given .0 .0 < entries .before .before .args .n
+within c =
+    let entries = c .before .before .before .before .before in
+    let a = entries .before .before .args in
+    found-entry (a .n) (now (a .table)) (a .q) (found c)
+
+room : (c : tie.After-known-told) → let entries = c .before .before .before .before .before in
+    c .before .place .given .0 .0 * entryWidth + entryWidth ≤ length (now (entries .before .before .args .table))
 room c =
-    let start = c .before .before .before .before .before .before in
-    found-room (start .pre) (start .args .q) _ (sym (c .before .before .before .find .ensures) ∙ c .before .place .given .1)
+    let entries = c .before .before .before .before .before in
+    let start = entries .before .before in
+    record-room (ofTable (start .args .n)) (now (start .args .table)) (start .pre .fitting) _ (within c)
 
 find-requires : tie.Need-find-requires
-find-requires c κs = search needs
-
-enum-known-place : tie.Need-enum-known-place
-enum-known-place c = search needs
-
-enum-told : tie.Need-enum-told
-enum-told c = search needs
-
-same-length : tie.Need-same-length
-same-length c = search needs
+find-requires c κs = let entries = c .before in rw (entries .of-table .ensures) (entries .before .before .pre)
 
 returns : tie.Need-returns
 unfolding marked
-returns c = rw (← c .before .before .find .ensures, c .enum-told .given .1)
+returns c =
+    let searched = c .before .before in
+    rw (← searched .before .before .of-table .ensures, ← searched .find .ensures, c .enum-told .given .1)
 
-mul-at : tie.Need-mul-at
-mul-at c = omega (arith, room c)
+rounds-at-requires : tie.Need-rounds-at-requires
+rounds-at-requires c κs =
+    let found = c .before in
+    let entries = found .before .before .before .before .before in
+    rw (entries .of-table .ensures) (entries .before .before .pre .fitting, within found)
 
-add-at : tie.Need-add-at
-add-at c = omega (arith, room c)
+mul-put-word : tie.Need-mul-put-word
+mul-put-word c = omega (arith, room (c .before .before .before))
 
-word-at-requires : tie.Need-word-at-requires
-word-at-requires c κs = omega (arith, room (c .before .before))
-
-with-mark-requires : tie.Need-with-mark-requires
-with-mark-requires c κs = search needs
+add-put-word : tie.Need-add-put-word
+add-put-word c = omega (arith, room (c .before .before .before))
 
 put-word-requires : tie.Need-put-word-requires
 put-word-requires c κs = omega (arith, room (c .before .before .before .before))
-
-same-length-2 : tie.Need-same-length-2
-same-length-2 c = search needs
 
 returns-2 : tie.Need-returns-2
 unfolding marked
 returns-2 c =
     let put = c .before .before in
-    let read = put .before .before in
-    let found = read .before .before .before .before in
+    let read = put .before .before .before in
+    let told = read .before .before in
+    let entries = told .before .before .before .before .before in
     rw (
       put .put-word .ensures,
       put .before .with-mark .ensures,
-      read .word-at .ensures,
-      ← found .before .before .find .ensures,
-      found .place .given .1,
+      read .rounds-at .ensures,
+      entries .of-table .ensures,
+      found told,
     )
 
 pub mark-spec : {M : Type 1} → statement M
 mark-spec =
     tie.close
     (tie.spec
+    (λ c κs. search needs)
     find-requires
-    enum-known-place
-    enum-told
-    same-length
+    (λ c. search needs)
+    (λ c. search needs)
+    (λ c. search needs)
     returns
-    mul-at
-    add-at
-    word-at-requires
-    with-mark-requires
+    rounds-at-requires
+    mul-put-word
+    add-put-word
+    (λ c κs. search needs)
     put-word-requires
-    same-length-2
+    (λ c. search needs)
     returns-2)

@@ -4,9 +4,6 @@ use borrow.Author.Tests.{eq-eqb, ne-eqb}
 use Rattle.comparer_state_pairs.proofs.leads_into.Statement.{statement}
 use Rattle.comparer_state_pairs.proofs.leads_into.Tie as tie
 
-has-requires : tie.Need-has-requires
-has-requires c κs = search needs
-
 returns : tie.Need-returns
 returns c = rw (eq-eqb _ _ (c .before .if1 .taken)) (c .has .ensures)
 
@@ -14,4 +11,4 @@ returns-2 : tie.Need-returns-2
 returns-2 c = rw (ne-eqb _ _ (c .if1 .left))
 
 pub leads-into-spec : {M : Type 1} → statement M
-leads-into-spec = tie.close (tie.spec has-requires returns returns-2)
+leads-into-spec = tie.close (tie.spec (λ c κs. search needs) returns returns-2)

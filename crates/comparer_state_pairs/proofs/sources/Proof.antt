@@ -1,65 +1,43 @@
--- `comparer_state_pairs::sources` meets its contract. The loop's invariant: the sources of the left edges before `i` are in the set. Assumes
--- nothing.
+-- `comparer_state_pairs::sources` meets its contract. The loop's invariant: the sources of the left edges before `i` are in
+-- the set. Assumes nothing.
 use Prim.Native.Nat.{_-_, _≤_}
 use mathlib.Core.Path.{_≡_, refl, _∙_}
 use native.Mathlib.Numerals.{add-one}
 use native.Mathlib.Omega.{arith}
-use lib.ListN.{length}
 use borrow.Author.Needs.{needs}
-use Rattle.fra.specs.Model.{edgeOf}
-use Rattle.fra_laws.proofs.Lengths.{length-of-map}
-use Rattle.comparer_rank_laws.specs.Pairs.{sources}
+use Rattle.fra.specs.declared.Side.the-variants.{Left}
+use Rattle.game_index.specs.Reading.{taskIn}
+use Rattle.game_index.proofs.Reading.{model-in}
+use Rattle.comparer_rank_laws.specs.Sources.{sourcesTo}
 use Rattle.comparer_state_pairs.proofs.sources.Statement.{statement}
 use Rattle.comparer_state_pairs.proofs.sources.Tie as tie
 
 abbrev Inv-loop : tie.InvT-loop
-Inv-loop lost left right pairs₀ i₀ pairs i = (i ≤ left .«edge_count») × (pairs ≡ sources left right lost i)
+Inv-loop index lost end pairs₀ i₀ pairs i = (i ≤ end) × (pairs ≡ sourcesTo (taskIn index) lost i)
 
 abbrev μ-loop : tie.MeasureT-loop
-μ-loop lost left right pairs₀ i₀ pairs i = left .«edge_count» - i
-
--- there are places for as many edges as a valid model counts
-few-left : (c : tie.Start Inv-loop μ-loop) → c .args .t .left .«edge_count» ≤ 64
-few-left c =
-    let long : length (c .args .t .left .edges) ≡ 64 = search (needs, length-of-map) in
-    omega (arith, c .pre .left .edge-places)
-
-few-right : (c : tie.Start Inv-loop μ-loop) → c .args .t .right .«edge_count» ≤ 64
-few-right c =
-    let long : length (c .args .t .right .edges) ≡ 64 = search (needs, length-of-map) in
-    omega (arith, c .pre .right .edge-places)
+μ-loop index lost end pairs₀ i₀ pairs i = end - i
 
 loop-holds : tie.Need-loop-holds Inv-loop μ-loop
-unfolding sources
+unfolding sourcesTo
 loop-holds c = (search needs, refl)
 
-cast-e : tie.Need-cast-e Inv-loop μ-loop
-cast-e c = search needs
-
-mul-e : tie.Need-mul-e Inv-loop μ-loop
-mul-e c = search needs
-
-element-copy-out-e : tie.Need-element-copy-out-e Inv-loop μ-loop
-element-copy-out-e c = omega (arith, few-left (c .before .before .before .before))
-
-add-sources-requires : tie.Need-add-sources-requires Inv-loop μ-loop
-add-sources-requires c κs = few-right (c .before .before .before .before .before .before)
-
-add-i : tie.Need-add-i Inv-loop μ-loop
-add-i c = search needs
-
-loop-less : tie.Need-loop-less Inv-loop μ-loop
-loop-less c = search needs
-
 loop-again : tie.Need-loop-again Inv-loop μ-loop
-unfolding sources edgeOf
-loop-again c = (search needs, c .add-sources .ensures ∙ rw (add-one, c .before .before .before .before .loop .inv .1))
+unfolding sourcesTo
+loop-again c =
+    let read = c .before .before in
+    let at = read .before .before in
+    let model = model-in (at .before .before .args .index .now) Left in (
+      search needs,
+      c .add-sources .ensures ∙ rw (add-one, at .loop .inv .1, read .edge-at .ensures, model),
+    )
 
 returns : tie.Need-returns Inv-loop μ-loop
+unfolding taskIn
 returns c =
     let at = c .before in
-    let full : at .loop .i ≡ at .before .before .before .args .t .left .«edge_count» = omega arith in
-    rw full at (at .loop .inv .1)
+    let full : at .loop .i ≡ at .before .edge-count .result = omega arith in
+    rw (full, at .before .edge-count .ensures) at (at .loop .inv .1)
 
 pub sources-spec : {M : Type 1} → statement M
 sources-spec =
@@ -67,12 +45,11 @@ sources-spec =
     (tie.spec
     Inv-loop
     μ-loop
+    (λ c κs. search needs)
     loop-holds
-    cast-e
-    mul-e
-    element-copy-out-e
-    add-sources-requires
-    add-i
-    loop-less
+    (λ c κs. search needs)
+    (λ c κs. search needs)
+    (λ c. search needs)
+    (λ c. search needs)
     loop-again
     returns)

@@ -5,14 +5,10 @@ use Rattle.outcome.specs.Verdicts.{checkedValuesOf}
 use Rattle.exports.proofs.nuldopa_check.Statement.{statement}
 use Rattle.exports.proofs.nuldopa_check.Tie as tie
 
-check-requires : tie.Need-check-requires
-check-requires c κs = search needs
-
-check-answer-requires : tie.Need-check-answer-requires
-check-answer-requires c κs = search needs
-
 returns : tie.Need-returns
-returns c = c .check-answer .ensures ∙ ap checkedValuesOf (c .before .check .ensures)
+returns c =
+    c .answer-of .ensures ∙ c .before .as-comparison .ensures ∙ ap checkedValuesOf (c .before .before .check .ensures)
 
 pub nuldopa-check-spec : {M : Type 1} → statement M
-nuldopa-check-spec = tie.close (tie.spec check-requires check-answer-requires returns)
+nuldopa-check-spec =
+    tie.close (tie.spec (λ c κs. search needs) (λ c κs. search needs) (λ c κs. search needs) returns)

@@ -5,27 +5,16 @@ use Rattle.outcome.specs.Verdicts.{valuesOf}
 use Rattle.exports.proofs.nuldopa_compare.Statement.{statement}
 use Rattle.exports.proofs.nuldopa_compare.Tie as tie
 
-compare-requires : tie.Need-compare-requires
-compare-requires c κs = search needs
-
-comparison-answer-requires : tie.Need-comparison-answer-requires
-comparison-answer-requires c κs = search needs
-
-same-length : tie.Need-same-length
-same-length c = search needs
-
-same-length-2 : tie.Need-same-length-2
-same-length-2 c = search needs
-
 returns : tie.Need-returns
 returns c =
     let given = c .before .before .before .before .before .compare .ensures in
     record {
-      numbers = c .comparison-answer .ensures ∙ ap valuesOf (given .answers);
+      numbers = c .answer-of .ensures ∙ ap valuesOf (given .answers);
       tables = given .tables;
       certificates = given .certificates;
     }
 
 pub nuldopa-compare-spec : {M : Type 1} → statement M
 nuldopa-compare-spec =
-    tie.close (tie.spec compare-requires comparison-answer-requires same-length same-length-2 returns)
+    tie.close
+    (tie.spec (λ c κs. search needs) (λ c κs. search needs) (λ c. search needs) (λ c. search needs) returns)

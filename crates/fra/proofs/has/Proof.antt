@@ -14,14 +14,8 @@ returns c = search needs
 returns-2 : tie.Need-returns-2
 returns-2 c = let a = c .before .before .args in sym (has-none (a .set) (a .i) (omega arith) (omega arith))
 
-sub-result : tie.Need-sub-result
-sub-result c = search needs
-
-shr-result : tie.Need-shr-result
-shr-result c = search needs
-
 returns-3 : tie.Need-returns-3
 returns-3 c = let a = c .before .before .args in sym (has-bit (a .set) (a .i) (omega arith))
 
 pub has-spec : {M : Type 1} → statement M
-has-spec = tie.close (tie.spec returns returns-2 sub-result shr-result returns-3)
+has-spec = tie.close (tie.spec returns returns-2 (λ c. search needs) (λ c. search needs) returns-3)

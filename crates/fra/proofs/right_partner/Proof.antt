@@ -18,17 +18,8 @@ returns-2 c =
     let long : length (a .t1) ≡ 6 = search needs in
     sym (right-partner-past (a .t1) (a .i) (omega arith))
 
-sub-result : tie.Need-sub-result
-sub-result c = search needs
-
-cast-result : tie.Need-cast-result
-cast-result c = search needs
-
-array-read-result : tie.Need-array-read-result
-array-read-result c = search needs
-
 returns-3 : tie.Need-returns-3
 returns-3 c = let a = c .before .before .args in sym (right-partner-at (a .t1) (a .i) (omega arith))
 
 pub right-partner-spec : {M : Type 1} → statement M
-right-partner-spec = tie.close (tie.spec returns returns-2 sub-result cast-result array-read-result returns-3)
+right-partner-spec = tie.close (tie.spec returns returns-2 (λ c. search needs) (λ c. search needs) (λ c. search needs) returns-3)

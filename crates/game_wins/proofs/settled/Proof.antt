@@ -1,120 +1,83 @@
--- `game_wins::settled` meets its contract. The loop's invariant: what is settled of the fan is settled of its edges from
--- place `at` on. The measure is how many of these answer. Assumes nothing.
-use Prim.Native.Nat.{_+_, _<_}
+-- `game_wins::settled` meets its contract. The loop's invariant: what is to settle from the range's first edge on is what is left
+-- to settle from edge `from` on. The measure is how many replies are left. Assumes nothing.
+use Prim.Native.Nat.{_+_}
 use mathlib.Core.Path.{_≡_, refl, sym, _∙_}
 use mathlib.Core.Bool.{_&&_}
-use mathlib.Core.List.{_∷_}
 use native.Mathlib.Omega.{arith}
 use lib.ListN.{length}
+use mir.Syntax.{w8}
+use mir.Val.{Fits}
+use denote.Ref.{now}
 use borrow.Author.Needs.{needs}
 use borrow.Author.Tests.{not-true, not-false}
-use Rattle.old_replies.specs.Fan.{candidateAt}
-use Rattle.game_wins.specs.Judgement.{lostAmong}
-use Rattle.game_wins.specs.Wins.{candidates, settles}
-use Rattle.game_wins.proofs.Settling.{answersAt, answer-first, answer-none, settles-none, settles-next}
+use Rattle.game_replies.specs.ReplySearch.{repliesFrom}
+use Rattle.game_replies.proofs.ReplySearch.{NextReply, reply-found, reply-missing}
+use Rattle.game_wins.specs.Judgement.{judgedAmong}
+use Rattle.game_wins.specs.Wins.{settlesFrom}
+use Rattle.game_wins.proofs.SettledAttacks.{replying, settles-none, settles-next}
 use Rattle.game_wins.proofs.settled.Statement.{statement}
 use Rattle.game_wins.proofs.settled.Tie as tie
 
 abbrev Inv-loop : tie.InvT-loop
-Inv-loop table n losing k edges challenge end at₀ at =
-    settles (lostAmong losing table n k) challenge (candidates edges at₀ end)
-    ≡ settles (lostAmong losing table n k) challenge (candidates edges at end)
+Inv-loop list judge losing index p challenge from₀ from =
+    settlesFrom (judgedAmong losing list judge) index p challenge from₀
+    ≡ settlesFrom (judgedAmong losing list judge) index p challenge from
 
 abbrev μ-loop : tie.MeasureT-loop
-μ-loop table n losing k edges challenge end at₀ at = length (answersAt edges end challenge at)
+μ-loop list judge losing index p challenge from₀ from =
+    length (repliesFrom (replying index challenge) challenge from)
 
--- the place that was found is that of the first candidate that answers
-found : (c : tie.After-known-told Inv-loop μ-loop)
-    → (c .before .answer .given .0 .0 < c .before .before .before .before .before .before .args .fan .end)
-    × (
-    answersAt (c .before .before .before .before .before .before .args .edges .now)
-    (c .before .before .before .before .before .before .args .fan .end)
-    (c .before .before .before .before .before .before .args .challenge)
-    (c .before .before .before .before .loop .at)
-    ≡ candidateAt (c .before .before .before .before .before .before .args .edges .now) (c .before .answer .given .0 .0)
-    ∷ answersAt (c .before .before .before .before .before .before .args .edges .now)
-    (c .before .before .before .before .before .before .args .fan .end)
-    (c .before .before .before .before .before .before .args .challenge)
-    (c .before .answer .given .0 .0 + 1)
-    )
-found c =
-    let searched = c .before .before .before in
-    let a = searched .before .before .before .args in
-    answer-first (a .edges .now) (a .fan .end) (a .challenge) (searched .before .loop .at) (searched .next-answer .ensures)
-    (c .before .answer .given .0 .0)
-    (c .before .answer .given .1)
+end : (c : tie.Start Inv-loop μ-loop) → Fits w8 (c .args .challenge .edges .end)
+end c = search needs
+
+-- the reply that was found is the next one
+next : (c : tie.After-known-told Inv-loop μ-loop) → let at-loop = c .before .before .before .before in
+    let a = at-loop .before .before .before .args in
+    NextReply (replying (now (a .index)) (a .challenge)) (a .challenge) (at-loop .loop .from) (c .before .reply .given .0 .0)
+    (c .before .reply .given .0 .1 .0)
+next c =
+    let found = c .before in
+    reply-found _ _ _ (found .before .before .next-reply .ensures) (found .reply .given .1)
 
 -- what is left to settle is whether it leads to a lost position, and what is left after it
-next : (c : tie.After-leads-to-lost Inv-loop μ-loop)
-    → settles
-    (lostAmong (c .before .before .before .before .before .before .before .before .before .args .losing .now)
-    (c .before .before .before .before .before .before .before .before .before .args .table .now)
-    (c .before .before .before .before .before .before .before .before .before .args .n)
-    (c .before .before .before .before .before .before .before .before .before .args .k))
-    (c .before .before .before .before .before .before .before .before .before .args .challenge)
-    (candidates (c .before .before .before .before .before .before .before .before .before .args .edges .now)
-    (c .before .before .before .before .before .before .before .loop .at)
-    (c .before .before .before .before .before .before .before .before .before .args .fan .end))
-    ≡ c .leads-to-lost .result
-    && settles
-    (lostAmong (c .before .before .before .before .before .before .before .before .before .args .losing .now)
-    (c .before .before .before .before .before .before .before .before .before .args .table .now)
-    (c .before .before .before .before .before .before .before .before .before .args .n)
-    (c .before .before .before .before .before .before .before .before .before .args .k))
-    (c .before .before .before .before .before .before .before .before .before .args .challenge)
-    (candidates (c .before .before .before .before .before .before .before .before .before .args .edges .now)
-    (c .before .before .before .before .answer .given .0 .0 + 1)
-    (c .before .before .before .before .before .before .before .before .before .args .fan .end))
-next c =
-    let known = c .before .before .before in
-    let a = known .before .before .before .before .before .before .args in
-    rw (c .leads-to-lost .ensures, c .before .before .candidate-at .ensures)
-    (settles-next (a .edges .now) (a .fan .end) (a .challenge) _ (known .before .before .before .before .loop .at) (known .before .answer .given .0 .0 + 1)
-    (found known .1))
+left : (c : tie.After-leads-to-lost Inv-loop μ-loop) → let found = c .before .before in
+    let at-loop = found .before .before .before in
+    let a = at-loop .before .before .before .args in
+    let lost = judgedAmong (now (a .losing)) (now (a .list)) (a .judge) in
+    settlesFrom lost (now (a .index)) (a .p) (a .challenge) (a .challenge .edges .first)
+    ≡ (c .leads-to-lost .result && settlesFrom lost (now (a .index)) (a .p) (a .challenge) (found .reply .given .0 .1 .0 + 1))
+left c =
+    let at-loop = c .before .before .before .before .before in
+    at-loop .loop .inv ∙ settles-next _ _ _ _ _ (next (c .before)) ∙ rw (c .leads-to-lost .ensures)
 
 loop-holds : tie.Need-loop-holds Inv-loop μ-loop
 loop-holds c = refl
 
-next-answer-requires : tie.Need-next-answer-requires Inv-loop μ-loop
-next-answer-requires c κs = search needs
-
-enum-known-answer : tie.Need-enum-known-answer Inv-loop μ-loop
-enum-known-answer c = search needs
-
-enum-told : tie.Need-enum-told Inv-loop μ-loop
-enum-told c = search needs
-
 returns : tie.Need-returns Inv-loop μ-loop
 returns c =
     let searched = c .before .before in
-    let a = searched .before .before .before .args in
-    sym
-    (searched .before .loop .inv
-    ∙ settles-none (a .edges .now) (a .fan .end) (a .challenge) _ (searched .before .loop .at)
-    (answer-none (a .edges .now) (a .fan .end) (a .challenge) (searched .before .loop .at) (searched .next-answer .ensures)
-    (c .enum-told .given .1)))
-
-candidate-at-requires : tie.Need-candidate-at-requires Inv-loop μ-loop
-candidate-at-requires c κs = search needs
-
-leads-to-lost-requires : tie.Need-leads-to-lost-requires Inv-loop μ-loop
-leads-to-lost-requires c κs = search needs
+    let none-left = reply-missing _ _ _ (searched .next-reply .ensures) (c .enum-told .given .1) in
+    sym (searched .before .loop .inv ∙ settles-none _ _ _ _ _ none-left)
 
 returns-2 : tie.Need-returns-2 Inv-loop μ-loop
 returns-2 c =
-    let here = c .before .before .before .before .before .before .before .before in
-    sym (here .loop .inv ∙ next (c .before) ∙ rw (not-true (c .before .leads-to-lost .result) (c .if1 .taken)))
+    let tested = c .before in
+    sym (left tested ∙ rw (not-true (tested .leads-to-lost .result) (c .if1 .taken)))
 
-add-at : tie.Need-add-at Inv-loop μ-loop
-add-at c = let (below, first) = found (c .before .before .before .before) in search (needs, below)
+add-from : tie.Need-add-from Inv-loop μ-loop
+add-from c =
+    let found = c .before .before in
+    let at-loop = found .before .before .before .before in
+    let exists = next found .exists in
+    search (needs, end (at-loop .before .before .before), exists)
 
 loop-less : tie.Need-loop-less Inv-loop μ-loop
-loop-less c = rw (found (c .before .before .before .before) .1) (omega arith)
+loop-less c = rw (next (c .before .before) .first) (omega arith)
 
 loop-again : tie.Need-loop-again Inv-loop μ-loop
 loop-again c =
-    let here = c .before .before .before .before .before .before .before .before in
-    here .loop .inv ∙ next (c .before) ∙ rw (not-false (c .before .leads-to-lost .result) (c .if1 .left))
+    let tested = c .before in
+    left tested ∙ rw (not-false (tested .leads-to-lost .result) (c .if1 .left))
 
 pub settled-spec : {M : Type 1} → statement M
 settled-spec =
@@ -123,13 +86,12 @@ settled-spec =
     Inv-loop
     μ-loop
     loop-holds
-    next-answer-requires
-    enum-known-answer
-    enum-told
+    (λ c κs. search needs)
+    (λ c. search needs)
+    (λ c. search needs)
     returns
-    candidate-at-requires
-    leads-to-lost-requires
+    (λ c κs. search needs)
     returns-2
-    add-at
+    add-from
     loop-less
     loop-again)

@@ -10,37 +10,16 @@ Inv-loop m k₀ k = k ≤ m .«edge_count»
 abbrev μ-loop : tie.MeasureT-loop
 μ-loop m k₀ k = m .«edge_count» - k
 
-loop-holds : tie.Need-loop-holds Inv-loop μ-loop
-loop-holds c = search needs
-
-edge-of-requires : tie.Need-edge-of-requires Inv-loop μ-loop
-edge-of-requires c κs = search needs
-
-print-edge-requires : tie.Need-print-edge-requires Inv-loop μ-loop
-print-edge-requires c κs = search needs
-
-add-k : tie.Need-add-k Inv-loop μ-loop
-add-k c = search needs
-
-loop-less : tie.Need-loop-less Inv-loop μ-loop
-loop-less c = search needs
-
-loop-again : tie.Need-loop-again Inv-loop μ-loop
-loop-again c = search needs
-
-returns : tie.Need-returns Inv-loop μ-loop
-returns c = search needs
-
 pub print-edges-spec : {M : Type 1} → statement M
 print-edges-spec =
     tie.close
     (tie.spec
     Inv-loop
     μ-loop
-    loop-holds
-    edge-of-requires
-    print-edge-requires
-    add-k
-    loop-less
-    loop-again
-    returns)
+    (λ c. search needs)
+    (λ c κs. search needs)
+    (λ c κs. search needs)
+    (λ c. search needs)
+    (λ c. search needs)
+    (λ c. search needs)
+    (λ c. search needs))

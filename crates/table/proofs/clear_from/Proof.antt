@@ -12,21 +12,6 @@ use Rattle.outcome.specs.Bytes.{cleared, thenZeros}
 use Rattle.table.proofs.clear_from.Statement.{statement}
 use Rattle.table.proofs.clear_from.Tie as tie
 
-sub-clear : tie.Need-sub-clear
-sub-clear c = search needs
-
-part-clear-start : tie.Need-part-clear-start
-part-clear-start c = search needs
-
-part-clear-end : tie.Need-part-clear-end
-part-clear-end c = search needs
-
-clear-requires : tie.Need-clear-requires
-clear-requires c κs = search needs
-
-same-length : tie.Need-same-length
-same-length c = search needs
-
 put-back : (at : ℕ) (table part : List ℕ) → at ≤ length table → part ≡ cleared (take (length table - at) (drop at table))
     → take at table ++ (part ++ drop (length table - at) (drop at table)) ≡ thenZeros (take at table) table
 unfolding thenZeros
@@ -43,4 +28,4 @@ returns c =
     put-back (start .args .at) (now (start .args .table)) (cleared .last .0) (start .pre) (cleared .ensures)
 
 pub clear-from-spec : {M : Type 1} → statement M
-clear-from-spec = tie.close (tie.spec sub-clear part-clear-start part-clear-end clear-requires same-length returns)
+clear-from-spec = tie.close (tie.spec (λ c. search needs) (λ c. search needs) (λ c. search needs) (λ c κs. search needs) (λ c. search needs) returns)

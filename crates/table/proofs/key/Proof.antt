@@ -1,48 +1,102 @@
--- `table::key` meets its contract: the digits of a key, one by one. Assumes nothing.
-use mathlib.Core.Path.{_≡_}
+-- `table::key` meets its contract. The loop's invariant: the key is what the digits from register `i` on continue. No part of a
+-- key is more than the key, so all parts are small. The measure is how many registers are left. Assumes nothing.
+use Prim.Native.Nat.{ℕ, _+_, _*_, _-_, _≤_, _<_}
+use mathlib.Core.Path.{_≡_, refl, sym, _∙_}
 use native.Mathlib.Omega.{arith}
-use lib.ListN.{length}
+use lib.ListN.{length, getD, drop}
+use mir.Syntax.{w8}
+use mir.Val.{Fits}
 use borrow.Author.Needs.{needs}
-use Rattle.table_laws.proofs.Rows.{key-of-six}
+use Rattle.listing.specs.Digits.{value}
+use Rattle.table_laws.specs.Keys.{stateBase, partnerBase, keyOf, keyLimit}
+use Rattle.table_laws.proofs.Keys.{value-digit, value-end, key-of-bytes, key-part-small}
 use Rattle.table.proofs.key.Statement.{statement}
 use Rattle.table.proofs.key.Tie as tie
 
-array-read-packed : tie.Need-array-read-packed
-array-read-packed c = search needs
+abbrev Inv-loop : tie.InvT-loop
+Inv-loop partners key₀ i₀ key i = (i ≤ 6) × (value partnerBase key (drop i partners) ≡ value partnerBase key₀ partners)
 
-array-read-packed-2 : tie.Need-array-read-packed-2
-array-read-packed-2 c = search needs
+abbrev μ-loop : tie.MeasureT-loop
+μ-loop partners key₀ i₀ key i = 6 - i
 
-array-read-packed-3 : tie.Need-array-read-packed-3
-array-read-packed-3 c = search needs
+six : (c : tie.Start Inv-loop μ-loop) → length (c .args .p .partners) ≡ 6
+six c = search needs
 
-array-read-packed-4 : tie.Need-array-read-packed-4
-array-read-packed-4 c = search needs
+-- a part of the key is small
+small : (c : tie.Start Inv-loop μ-loop) (x : ℕ) (i : ℕ)
+    → let p = c .args .p in
+    value partnerBase x (drop i (p .partners)) ≡ value partnerBase (p .left * stateBase + p .right) (p .partners)
+    → x < keyLimit
+unfolding keyOf
+small c x i e =
+    let p = c .args .p in
+    let left : Fits w8 (p .left) = search needs in
+    let right : Fits w8 (p .right) = search needs in
+    let partner : (i : ℕ) → Fits w8 (getD (p .partners) i 0) = λ i. search needs in
+    key-part-small (keyOf p) x (drop i (p .partners))
+    (key-of-bytes p (left .fits) (right .fits) (six c) (λ i. partner i .fits)) e
 
-array-read-packed-5 : tie.Need-array-read-packed-5
-array-read-packed-5 c = search needs
+-- the key with one digit more
+next : (c : tie.In-loop Inv-loop μ-loop)
+    → let at = c .before in
+    let p = at .before .before .before .before .args .p in
+    value partnerBase (at .loop .key * partnerBase + getD (p .partners) (at .loop .i) 0) (drop (at .loop .i + 1) (p .partners))
+    ≡ value partnerBase (p .left * stateBase + p .right) (p .partners)
+next c =
+    let at = c .before in
+    let start = at .before .before .before .before in
+    sym
+    (value-digit partnerBase (at .loop .key) (start .args .p .partners) (at .loop .i)
+    (omega (arith, six start, c .loop-test .taken)))
+    ∙ at .loop .inv .1
 
-array-read-packed-6 : tie.Need-array-read-packed-6
-array-read-packed-6 c = search needs
+next-small : (c : tie.In-loop Inv-loop μ-loop)
+    → let at = c .before in
+    let p = at .before .before .before .before .args .p in
+    at .loop .key * partnerBase + getD (p .partners) (at .loop .i) 0 < keyLimit
+next-small c =
+    let at = c .before in
+    small (at .before .before .before .before) _ (at .loop .i + 1) (next c)
 
-packed-requires : tie.Need-packed-requires
-packed-requires c κs = search needs
+loop-holds : tie.Need-loop-holds Inv-loop μ-loop
+loop-holds c = (omega arith, refl)
 
-returns : tie.Need-returns
+mul-key-2 : tie.Need-mul-key-2 Inv-loop μ-loop
+mul-key-2 c = let h = next-small c in search needs
+
+add-key-2 : tie.Need-add-key-2 Inv-loop μ-loop
+add-key-2 c = let h = next-small c in search needs
+
+loop-again : tie.Need-loop-again Inv-loop μ-loop
+loop-again c = (omega arith, next c)
+
+returns : tie.Need-returns Inv-loop μ-loop
+unfolding keyOf
 returns c =
-    let p = c .before .before .args .p in
-    let long : length (p .partners) ≡ 6 = search needs in
-    omega (arith, key-of-six p long)
+    let at = c .before in
+    let start = at .before .before .before .before in
+    let (i, same) = at .loop .inv in
+    let partners = start .args .p .partners in
+    let end = value-end partnerBase (at .loop .key) partners (at .loop .i) (omega (arith, six start, c .loop-test .left)) in
+    (sym end ∙ same, small start (at .loop .key) (at .loop .i) same)
 
 pub key-spec : {M : Type 1} → statement M
 key-spec =
     tie.close
     (tie.spec
-    array-read-packed
-    array-read-packed-2
-    array-read-packed-3
-    array-read-packed-4
-    array-read-packed-5
-    array-read-packed-6
-    packed-requires
+    Inv-loop
+    μ-loop
+    (λ c. search needs)
+    (λ c. search needs)
+    (λ c. search needs)
+    (λ c. search needs)
+    loop-holds
+    mul-key-2
+    (λ c. search needs)
+    (λ c. search needs)
+    (λ c. search needs)
+    add-key-2
+    (λ c. search needs)
+    (λ c. search needs)
+    loop-again
     returns)

@@ -2,7 +2,7 @@
 use mathlib.Core.Path.{sym, _∙_, ap}
 use borrow.Author.Needs.{needs}
 use Rattle.task.specs.TaskFile.{atEnd}
-use Rattle.task_reader.proofs.Rest.{unended}
+use Rattle.task_reader.proofs.RestOfFile.{unended}
 use Rattle.task_reader.proofs.at_end.Statement.{statement}
 use Rattle.task_reader.proofs.at_end.Tie as tie
 

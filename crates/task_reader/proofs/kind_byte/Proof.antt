@@ -1,6 +1,6 @@
 -- `task_reader::kind_byte` meets its contract, byte by byte. Assumes nothing.
 use Rattle.task.specs.TaskFile.{recordKind}
-use Rattle.task_reader.proofs.Rest.{no-kind}
+use Rattle.task_reader.proofs.RestOfFile.{no-kind}
 use Rattle.task_reader.proofs.kind_byte.Statement.{statement}
 use Rattle.task_reader.proofs.kind_byte.Tie as tie
 

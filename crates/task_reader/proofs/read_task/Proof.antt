@@ -9,7 +9,7 @@ use lib.ListN.{length, getD, take, drop}
 use borrow.Author.Needs.{needs}
 use Rattle.task.specs.TaskFile.{recordKind, step}
 use Rattle.task_reader.specs.Kinds.{defined, announced}
-use Rattle.task_reader.proofs.Rest.{ReadTo, begins, over, unknown, cut, turned-back, goes-on}
+use Rattle.task_reader.proofs.RestOfFile.{ReadTo, begins, over, unknown, cut, turned-back, goes-on}
 use Rattle.task_reader.proofs.read_task.Statement.{statement}
 use Rattle.task_reader.proofs.read_task.Tie as tie
 
@@ -54,7 +54,9 @@ returns-2 c =
     (known kind) (sized .body-length .ensures) (c .before .if1 .taken)
 
 step-requires : tie.Need-step-requires Inv-loop μ-loop
-step-requires c κs = c .before .before .before .before .before .before .before .before .before .loop .inv .due
+step-requires c κs =
+    let kind = c .before .before .before .before in
+    kind .before .before .before .before .before .loop .inv .due
 
 -- the body is as long as the kind says
 stepped : (c : tie.After-step Inv-loop μ-loop) →

@@ -1,84 +1,71 @@
--- `comparer_certify::fields::put_loss` meets its contract: a kind, a position, an attack and rounds, one behind another. Assumes nothing.
+-- `comparer_certify::fields::put_loss` meets its contract: a kind, a position, an attack and rounds, one behind another. Assumes
+-- nothing.
 use native.Mathlib.Omega.{arith}
 use denote.Ref.{now}
 use borrow.Author.Needs.{needs}
-use Rattle.table_laws.specs.Table.{positionAt}
-use Rattle.comparer_certify_laws.specs.Records.{recordAt}
-use Rattle.comparer_certify_laws.proofs.Filling.{entry-six}
-use Rattle.comparer_certify.proofs.Parts.{loss-written}
+use Rattle.outcome.specs.Verdicts.{kindOf}
+use Rattle.outcome.specs.declared.Verdict.the-variants.{Differ}
+use Rattle.listing.specs.Listing.{ofTable, positionAt}
+use Rattle.comparer_certify_laws.specs.EntryRecords.{recordAt}
+use Rattle.comparer_certify_laws.proofs.RecordFilling.{entry-six}
+use Rattle.comparer_certify.proofs.RecordParts.{loss-written}
 use Rattle.comparer_certify.proofs.fields.put_loss.Statement.{statement}
 use Rattle.comparer_certify.proofs.fields.put_loss.Tie as tie
 
-mul-word-at : tie.Need-mul-word-at
-mul-word-at c = search needs
-
-add-word-at : tie.Need-add-word-at
-add-word-at c = search needs
-
-word-at-requires : tie.Need-word-at-requires
-word-at-requires c κs = search needs
-
 position-at-requires : tie.Need-position-at-requires
-position-at-requires c κs = search needs
+position-at-requires c κs =
+    let start = c .before .before .before in
+    rw (c .of-table .ensures) (start .pre .0 .fitting, start .pre .1 .1)
 
-attack-of-requires : tie.Need-attack-of-requires
-attack-of-requires c κs =
-    let start = c .before .before .before .before in
-    (start .pre .0, omega arith)
-
-put-head-requires : tie.Need-put-head-requires
-put-head-requires c κs = search needs
-
-add-put-attack : tie.Need-add-put-attack
-add-put-attack c = search needs
-
-put-attack-requires : tie.Need-put-attack-requires
-put-attack-requires c κs = search needs
+rounds-at-requires : tie.Need-rounds-at-requires
+rounds-at-requires c κs =
+    let entries = c .before in
+    let start = entries .before .before .before in
+    rw (entries .of-table .ensures) (start .pre .0 .fitting, start .pre .1 .1)
 
 add-put-word : tie.Need-add-put-word
-add-put-word c = search needs
-
-put-word-requires : tie.Need-put-word-requires
-put-word-requires c κs = search needs
-
-same-length : tie.Need-same-length
-same-length c = search needs
+add-put-word c =
+    let attacked = c .before .before .before in
+    let headed = attacked .before .before .before .before in
+    let entries = headed .before .before .before .before .before in
+    omega (arith, entries .before .before .before)
 
 returns : tie.Need-returns
 unfolding recordAt
-returns c = λ t h.
+returns c =
     let rounded = c .before .before in
     let attacked = rounded .before .before .before .before in
     let headed = attacked .before .before .before .before in
     let won = headed .before .before in
-    let placed = won .before in
-    let read = placed .before in
-    let start = read .before .before .before in
+    let read = won .before in
+    let placed = read .before in
+    let entries = placed .before in
+    let start = entries .before .before .before in
     let a = start .args in
     rw (
       rounded .put-word .ensures,
       attacked .put-attack .ensures,
       headed .put-head .ensures,
-      won .attack-of .ensures t h,
+      won .attack-of .ensures,
+      read .rounds-at .ensures,
       placed .position-at .ensures,
-      read .word-at .ensures,
+      entries .of-table .ensures,
     )
-    (loss-written (now (a .buffer)) (a .at) 17 _ (positionAt (now (a .table)) (a .i)) _
-    (entry-six (now (a .table)) (a .i) (omega (arith, start .pre .0 .room))))
+    (loss-written (now (a .buffer)) (a .at) (kindOf Differ) _ (positionAt (ofTable (a .n)) (now (a .table)) (a .i)) _
+    (entry-six (a .n) (now (a .table)) (start .pre .0 .fitting) (a .i) (start .pre .1 .1)))
 
 pub put-loss-spec : {M : Type 1} → statement M
 put-loss-spec =
     tie.close
     (tie.spec
-    mul-word-at
-    add-word-at
-    word-at-requires
+    (λ c κs. search needs)
     position-at-requires
-    attack-of-requires
-    put-head-requires
-    add-put-attack
-    put-attack-requires
+    rounds-at-requires
+    (λ c κs. search needs)
+    (λ c κs. search needs)
+    (λ c. search needs)
+    (λ c κs. search needs)
     add-put-word
-    put-word-requires
-    same-length
+    (λ c κs. search needs)
+    (λ c. search needs)
     returns)

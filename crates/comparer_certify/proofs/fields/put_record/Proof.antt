@@ -1,48 +1,52 @@
 -- `comparer_certify::fields::put_record` meets its contract, verdict by verdict. Assumes nothing.
-use native.Mathlib.Omega.{arith}
 use borrow.Author.Needs.{needs}
-use Rattle.comparer_certify_laws.specs.Records.{recordAt}
+use Rattle.comparer_certify_laws.specs.EntryRecords.{recordAt}
 use Rattle.comparer_certify.proofs.fields.put_record.Statement.{statement}
 use Rattle.comparer_certify.proofs.fields.put_record.Tie as tie
 
-enum-told : tie.Need-enum-told
-enum-told c = search needs
+position-at-requires : tie.Need-position-at-requires
+position-at-requires c κs =
+    let told = c .before in
+    let start = told .before .before .before .before in
+    rw (c .of-table .ensures) (start .pre .0 .fitting, start .pre .1 .1)
 
 put-head-requires : tie.Need-put-head-requires
 put-head-requires c κs =
-    let start = c .before .before .before .before .before in
-    (omega (arith, start .pre .0 .room, start .pre .1 .0), rw (c .before .enum-told .given .1) at (start .pre .1 .1))
-
-enum-told-2 : tie.Need-enum-told-2
-enum-told-2 c = search needs
+    let told = c .before .before .before in
+    let start = told .before .before .before .before in
+    rw (told .enum-told .given .1) at (start .pre .1 .2)
 
 put-loss-requires : tie.Need-put-loss-requires
 put-loss-requires c κs =
-    let start = c .before .before .before .before .before in
-    (start .pre .0, (start .pre .1 .0, rw (c .before .enum-told2 .given .1) at (start .pre .1 .1)))
-
-same-length : tie.Need-same-length
-same-length c = search needs
+    let told = c .before in
+    let start = told .before .before .before .before in
+    (start .pre .0, (start .pre .1 .0, start .pre .1 .1, rw (told .enum-told2 .given .1) at (start .pre .1 .2)))
 
 returns : tie.Need-returns
 unfolding recordAt
-returns c = λ t h. let done = c .before .before in rw (done .before .before .enum-told .given .1) (done .put-head .ensures)
-
-same-length-2 : tie.Need-same-length-2
-same-length-2 c = search needs
+returns c =
+    let done = c .before .before in
+    let placed = done .before .before in
+    let entries = placed .before in
+    rw (entries .before .enum-told .given .1)
+    (rw (placed .position-at .ensures, entries .of-table .ensures) at (done .put-head .ensures))
 
 returns-2 : tie.Need-returns-2
-returns-2 c = λ t h. let done = c .before .before in rw (done .before .before .enum-told2 .given .1) (done .put-loss .ensures t h)
+returns-2 c =
+    let done = c .before .before in
+    rw (done .before .before .enum-told2 .given .1) (done .put-loss .ensures)
 
 pub put-record-spec : {M : Type 1} → statement M
 put-record-spec =
     tie.close
     (tie.spec
-    enum-told
+    (λ c. search needs)
+    (λ c κs. search needs)
+    position-at-requires
     put-head-requires
-    enum-told-2
+    (λ c. search needs)
     put-loss-requires
-    same-length
+    (λ c. search needs)
     returns
-    same-length-2
+    (λ c. search needs)
     returns-2)

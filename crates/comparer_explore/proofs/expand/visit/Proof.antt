@@ -6,39 +6,20 @@ use Rattle.outcome.specs.Compare.{capacity}
 use Rattle.comparer_explore.proofs.expand.visit.Statement.{statement}
 use Rattle.comparer_explore.proofs.expand.visit.Tie as tie
 
-insert-requires : tie.Need-insert-requires
-insert-requires c κs = search needs
-
-enum-told : tie.Need-enum-told
-enum-told c = search needs
-
-enum-told-2 : tie.Need-enum-told-2
-enum-told-2 c = search needs
-
 add-t8 : tie.Need-add-t8
 unfolding capacity
-add-t8 c = omega (arith, c .before .before .before .before .before .before .before .pre .0 .room)
-
-enum-told-3 : tie.Need-enum-told-3
-enum-told-3 c = search needs
-
-same-length : tie.Need-same-length
-same-length c = search needs
+add-t8 c =
+    let inserted = c .before .before .before .before in
+    omega (arith, inserted .before .before .before .pre .0 .room)
 
 returns : tie.Need-returns
 returns c =
     rw (c .enum-told .given .1) at (c .before .before .before .before .insert .ensures)
 
-same-length-2 : tie.Need-same-length-2
-same-length-2 c = search needs
-
 returns-2 : tie.Need-returns-2
 returns-2 c =
     rw add-one
     (rw (c .enum-told2 .given .1) at (c .before .before .before .before .insert .ensures))
-
-same-length-3 : tie.Need-same-length-3
-same-length-3 c = search needs
 
 returns-3 : tie.Need-returns-3
 returns-3 c =
@@ -48,14 +29,14 @@ pub visit-spec : {M : Type 1} → statement M
 visit-spec =
     tie.close
     (tie.spec
-    insert-requires
-    enum-told
-    enum-told-2
+    (λ c κs. search needs)
+    (λ c. search needs)
+    (λ c. search needs)
     add-t8
-    enum-told-3
-    same-length
+    (λ c. search needs)
+    (λ c. search needs)
     returns
-    same-length-2
+    (λ c. search needs)
     returns-2
-    same-length-3
+    (λ c. search needs)
     returns-3)

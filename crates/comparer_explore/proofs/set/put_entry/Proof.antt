@@ -43,21 +43,17 @@ add-put-word-2 : tie.Need-add-put-word-2
 unfolding capacity
 add-put-word-2 c = omega arith
 
-add-put-word-3 : tie.Need-add-put-word-3
-add-put-word-3 c = search needs
-
-cast-put-word : tie.Need-cast-put-word
-cast-put-word c = search needs
-
 put-word-requires-3 : tie.Need-put-word-requires-3
 unfolding capacity
 put-word-requires-3 c κs = omega arith
 
-same-length : tie.Need-same-length
-same-length c = search needs
-
 returns : tie.Need-returns
-returns c = cc (add-one (c .before .before .before .before .before .before .before .before .before .before .before .before .before .before .before .args .n))
+returns c =
+    let third = c .before .before in
+    let second = third .before .before .before .before in
+    let first = second .before .before .before .before in
+    let start = first .before .before .before .before .before in
+    cc (add-one (start .args .n))
 
 pub put-entry-spec : {M : Type 1} → statement M
 put-entry-spec =
@@ -73,8 +69,8 @@ put-entry-spec =
     put-word-requires-2
     mul-put-word-3
     add-put-word-2
-    add-put-word-3
-    cast-put-word
+    (λ c. search needs)
+    (λ c. search needs)
     put-word-requires-3
-    same-length
+    (λ c. search needs)
     returns)

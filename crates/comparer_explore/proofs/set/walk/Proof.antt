@@ -1,13 +1,13 @@
--- `comparer_explore::set::walk` meets its contract. The loop's invariant: the link is at most the head, and an entry with the key that
--- the walk from the head visits is visited from here on. The measure is the link, which falls. Assumes nothing.
+-- `comparer_explore::set::walk` meets its contract. The loop's invariant: the link is at most the head, and an entry with the key
+-- that the walk from the head visits is visited from here on. The measure is the link, which falls. Assumes nothing.
 use Prim.Native.Nat.{_-_}
 use mathlib.Core.Path.{_≡_, sym, _∙_}
 use native.Mathlib.Omega.{arith}
 use borrow.Author.Needs.{needs}
 use Rattle.outcome.specs.Compare.{capacity}
-use Rattle.comparer_explore_laws.specs.Chains.{Walking}
+use Rattle.comparer_explore_laws.specs.HashChains.{Walking}
 use Rattle.comparer_explore_laws.specs.Stored.{entriesOf}
-use Rattle.comparer_explore_laws.proofs.Chains.{walking-begins, walking-goes-on, walking-ends}
+use Rattle.comparer_explore_laws.proofs.HashChains.{walking-begins, walking-goes-on, walking-ends}
 use Rattle.comparer_explore.proofs.set.walk.Statement.{statement}
 use Rattle.comparer_explore.proofs.set.walk.Tie as tie
 
@@ -48,20 +48,18 @@ word-at-requires-2 : tie.Need-word-at-requires-2 Inv-loop μ-loop
 unfolding capacity
 word-at-requires-2 c κs = omega arith
 
-cast-at : tie.Need-cast-at Inv-loop μ-loop
-cast-at c = search needs
-
 loop-less : tie.Need-loop-less Inv-loop μ-loop
 loop-less c =
-    let at = c .before .before .before .before .loop .at in
-    let falls = c .before .before .before .before .before .before .pre .falls (at - 1) (omega arith) in
+    let at-loop = c .before .before .before .before in
+    let falls = at-loop .before .before .pre .falls (at-loop .loop .at - 1) (omega arith) in
     omega (arith, c .word-at2 .ensures)
 
 loop-again : tie.Need-loop-again Inv-loop μ-loop
 loop-again c =
-    let turn = c .before .before .before .before .loop in
+    let at-loop = c .before .before .before .before in
+    let turn = at-loop .loop in
     rw (c .word-at2 .ensures)
-    (walking-goes-on (c .before .before .before .before .before .before .pre .falls) (turn .inv) (turn .at - 1) (omega arith)
+    (walking-goes-on (at-loop .before .before .pre .falls) (turn .inv) (turn .at - 1) (omega arith)
     (λ e. c .before .if1 .left (c .before .before .word-at .ensures ∙ e)))
 
 returns-2 : tie.Need-returns-2 Inv-loop μ-loop
@@ -83,7 +81,7 @@ walk-spec =
     mul-word-at-2
     add-word-at
     word-at-requires-2
-    cast-at
+    (λ c. search needs)
     loop-less
     loop-again
     returns-2)

@@ -2,7 +2,7 @@
 use mathlib.Core.Path.{sym}
 use native.Mathlib.Omega.{arith}
 use Rattle.fra.specs.Game.{cases}
-use Rattle.game_moves.specs.Cases.{caseAt}
+use Rattle.game_moves.specs.IdCases.{caseAt}
 use Rattle.game_moves.proofs.IdCases.{case-private, case-seen, case-new}
 use Rattle.game_moves.proofs.cases.case_of.Statement.{statement}
 use Rattle.game_moves.proofs.cases.case_of.Tie as tie

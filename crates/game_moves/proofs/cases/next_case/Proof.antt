@@ -5,7 +5,7 @@ use mathlib.Core.Path.{_≡_, refl, sym, _∙_}
 use native.Mathlib.Omega.{arith}
 use lib.ListN.{length}
 use borrow.Author.Needs.{needs}
-use Rattle.game_moves.specs.Cases.{caseFrom}
+use Rattle.game_moves.specs.IdCases.{caseFrom}
 use Rattle.game_moves.proofs.IdCases.{case-here, case-later, case-none}
 use Rattle.game_moves.proofs.cases.next_case.Statement.{statement}
 use Rattle.game_moves.proofs.cases.next_case.Tie as tie
@@ -19,15 +19,6 @@ abbrev μ-loop : tie.MeasureT-loop
 loop-holds : tie.Need-loop-holds Inv-loop μ-loop
 loop-holds c = refl
 
-case-of-requires : tie.Need-case-of-requires Inv-loop μ-loop
-case-of-requires c κs = search needs
-
-has-case-requires : tie.Need-has-case-requires Inv-loop μ-loop
-has-case-requires c κs = search needs
-
-add-t10 : tie.Need-add-t10 Inv-loop μ-loop
-add-t10 c = search needs
-
 returns : tie.Need-returns Inv-loop μ-loop
 returns c =
     let here = c .before .before .before .before in
@@ -39,12 +30,6 @@ returns c =
     (here .loop .inv
     ∙ case-here 6 (a .others) (a .p) (a .side) (a .kind) (here .loop .n) long (omega arith)
     (rw (← named) (sym (c .before .has-case .ensures) ∙ c .if1 .taken))))
-
-add-n : tie.Need-add-n Inv-loop μ-loop
-add-n c = search needs
-
-loop-less : tie.Need-loop-less Inv-loop μ-loop
-loop-less c = search needs
 
 loop-again : tie.Need-loop-again Inv-loop μ-loop
 loop-again c =
@@ -68,11 +53,11 @@ next-case-spec =
     Inv-loop
     μ-loop
     loop-holds
-    case-of-requires
-    has-case-requires
-    add-t10
+    (λ c κs. search needs)
+    (λ c κs. search needs)
+    (λ c. search needs)
     returns
-    add-n
-    loop-less
+    (λ c. search needs)
+    (λ c. search needs)
     loop-again
     returns-2)

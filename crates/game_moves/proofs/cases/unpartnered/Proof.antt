@@ -4,12 +4,6 @@ use borrow.Author.Needs.{needs}
 use Rattle.game_moves.proofs.cases.unpartnered.Statement.{statement}
 use Rattle.game_moves.proofs.cases.unpartnered.Tie as tie
 
-has-requires : tie.Need-has-requires
-has-requires c κs = search needs
-
-partner-requires : tie.Need-partner-requires
-partner-requires c κs = search needs
-
 returns : tie.Need-returns
 returns c = rw (sym (c .before .before .has .ensures) ∙ c .before .if1 .taken, c .partner .ensures)
 
@@ -17,4 +11,4 @@ returns-2 : tie.Need-returns-2
 returns-2 c = rw (c .if1 .left, sym (c .before .has .ensures) ∙ c .if1 .left)
 
 pub unpartnered-spec : {M : Type 1} → statement M
-unpartnered-spec = tie.close (tie.spec has-requires partner-requires returns returns-2)
+unpartnered-spec = tie.close (tie.spec (λ c κs. search needs) (λ c κs. search needs) returns returns-2)

@@ -1,53 +1,8 @@
 -- `game_moves::rounds::joint` meets its contract, kind by kind. Assumes nothing.
 use borrow.Author.Needs.{needs}
-use Rattle.fra_laws.proofs.Successors.{compatible}
+use Rattle.fra_laws.specs.Joint.{compatible}
 use Rattle.game_moves.proofs.rounds.joint.Statement.{statement}
 use Rattle.game_moves.proofs.rounds.joint.Tie as tie
-
-enum-known-left : tie.Need-enum-known-left
-enum-known-left c = search needs
-
-enum-known-right : tie.Need-enum-known-right
-enum-known-right c = search needs
-
-partner-requires : tie.Need-partner-requires
-partner-requires c κs = search needs
-
-enum-told : tie.Need-enum-told
-enum-told c = search needs
-
-partner-requires-2 : tie.Need-partner-requires-2
-partner-requires-2 c κs = search needs
-
-enum-told-2 : tie.Need-enum-told-2
-enum-told-2 c = search needs
-
-enum-told-3 : tie.Need-enum-told-3
-enum-told-3 c = search needs
-
-enum-known-right-2 : tie.Need-enum-known-right-2
-enum-known-right-2 c = search needs
-
-partner-requires-3 : tie.Need-partner-requires-3
-partner-requires-3 c κs = search needs
-
-enum-told-4 : tie.Need-enum-told-4
-enum-told-4 c = search needs
-
-enum-told-5 : tie.Need-enum-told-5
-enum-told-5 c = search needs
-
-enum-told-6 : tie.Need-enum-told-6
-enum-told-6 c = search needs
-
-enum-told-7 : tie.Need-enum-told-7
-enum-told-7 c = search needs
-
-enum-told-8 : tie.Need-enum-told-8
-enum-told-8 c = search needs
-
-enum-told-9 : tie.Need-enum-told-9
-enum-told-9 c = search needs
 
 returns : tie.Need-returns
 unfolding compatible
@@ -89,21 +44,21 @@ pub joint-spec : {M : Type 1} → statement M
 joint-spec =
     tie.close
     (tie.spec
-    enum-known-left
-    enum-known-right
-    partner-requires
-    enum-told
-    partner-requires-2
-    enum-told-2
-    enum-told-3
-    enum-known-right-2
-    partner-requires-3
-    enum-told-4
-    enum-told-5
-    enum-told-6
-    enum-told-7
-    enum-told-8
-    enum-told-9
+    (λ c. search needs)
+    (λ c. search needs)
+    (λ c κs. search needs)
+    (λ c. search needs)
+    (λ c κs. search needs)
+    (λ c. search needs)
+    (λ c. search needs)
+    (λ c. search needs)
+    (λ c κs. search needs)
+    (λ c. search needs)
+    (λ c. search needs)
+    (λ c. search needs)
+    (λ c. search needs)
+    (λ c. search needs)
+    (λ c. search needs)
     returns
     returns-2
     returns-3

@@ -6,7 +6,7 @@ use native.Mathlib.Omega.{arith}
 use lib.ListN.{length, take, length-set}
 use borrow.Author.Needs.{needs}
 use Rattle.fra.specs.Game.{matched}
-use Rattle.game_moves.specs.Rounds.{movedTo}
+use Rattle.game_moves.specs.AfterRound.{movedTo}
 use Rattle.game_moves.proofs.Matchings.{matched-more, matched-all}
 use Rattle.game_moves.proofs.rounds.moved.Statement.{statement}
 use Rattle.game_moves.proofs.rounds.moved.Tie as tie
@@ -23,36 +23,6 @@ abbrev μ-loop : tie.MeasureT-loop
 
 loop-holds : tie.Need-loop-holds Inv-loop μ-loop
 loop-holds c = (search needs, search needs, refl, refl)
-
-add-rejoined : tie.Need-add-rejoined Inv-loop μ-loop
-add-rejoined c = search needs
-
-cast-rejoined : tie.Need-cast-rejoined Inv-loop μ-loop
-cast-rejoined c = search needs
-
-array-read-rejoined : tie.Need-array-read-rejoined Inv-loop μ-loop
-array-read-rejoined c = search needs
-
-rejoined-requires : tie.Need-rejoined-requires Inv-loop μ-loop
-rejoined-requires c κs = search needs
-
-add-remaining : tie.Need-add-remaining Inv-loop μ-loop
-add-remaining c = search needs
-
-remaining-requires : tie.Need-remaining-requires Inv-loop μ-loop
-remaining-requires c κs = search needs
-
-cast-partners : tie.Need-cast-partners Inv-loop μ-loop
-cast-partners c = search needs
-
-array-write-partners : tie.Need-array-write-partners Inv-loop μ-loop
-array-write-partners c = search needs
-
-add-i : tie.Need-add-i Inv-loop μ-loop
-add-i c = search needs
-
-loop-less : tie.Need-loop-less Inv-loop μ-loop
-loop-less c = search needs
 
 loop-again : tie.Need-loop-again Inv-loop μ-loop
 loop-again c =
@@ -77,15 +47,15 @@ moved-spec =
     Inv-loop
     μ-loop
     loop-holds
-    add-rejoined
-    cast-rejoined
-    array-read-rejoined
-    rejoined-requires
-    add-remaining
-    remaining-requires
-    cast-partners
-    array-write-partners
-    add-i
-    loop-less
+    (λ c. search needs)
+    (λ c. search needs)
+    (λ c. search needs)
+    (λ c κs. search needs)
+    (λ c. search needs)
+    (λ c κs. search needs)
+    (λ c. search needs)
+    (λ c. search needs)
+    (λ c. search needs)
+    (λ c. search needs)
     loop-again
     returns)

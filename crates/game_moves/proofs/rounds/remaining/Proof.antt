@@ -1,7 +1,7 @@
 -- `game_moves::rounds::remaining` meets its contract: a number times a test is the number where the test passes, else 0. Assumes
 -- nothing.
 use Prim.Native.Nat.{ℕ, _*_, _≤_}
-use mathlib.Core.Path.{_≡_, sym, _∙_}
+use mathlib.Core.Path.{_≡_}
 use mathlib.Core.Bool.{Bool, true, false, cond, _&&_}
 use native.Mathlib.Omega.{arith}
 use mir.Val.{boolByte}
@@ -18,15 +18,6 @@ at-most : (test : Bool) (x : ℕ) → boolByte test * x ≤ x
 at-most true x = omega arith
 at-most false x = omega arith
 
-has-requires : tie.Need-has-requires
-has-requires c κs = search needs
-
-has-requires-2 : tie.Need-has-requires-2
-has-requires-2 c κs = search needs
-
-cast-result : tie.Need-cast-result
-cast-result c = search needs
-
 mul-result : tie.Need-mul-result
 mul-result c = search (needs, at-most (c .before .has .result && c .has2 .result) (c .before .before .args .x))
 
@@ -36,4 +27,4 @@ returns c =
     rw (← c .before .has .ensures, ← c .has2 .ensures) (times (c .before .has .result && c .has2 .result) (c .before .before .args .x))
 
 pub remaining-spec : {M : Type 1} → statement M
-remaining-spec = tie.close (tie.spec has-requires has-requires-2 cast-result mul-result returns)
+remaining-spec = tie.close (tie.spec (λ c κs. search needs) (λ c κs. search needs) (λ c. search needs) mul-result returns)

@@ -8,12 +8,6 @@ use Rattle.fra_laws.proofs.Lengths.{length-of-map}
 use Rattle.task_lookup.proofs.models.edge_of.Statement.{statement}
 use Rattle.task_lookup.proofs.models.edge_of.Tie as tie
 
-mul-result : tie.Need-mul-result
-mul-result c = search needs
-
-element-copy-out-result : tie.Need-element-copy-out-result
-element-copy-out-result c = search needs
-
 returns : tie.Need-returns
 unfolding edgeOf
 returns c = refl
@@ -25,4 +19,4 @@ returns-2 c =
     rw (List·getD-eq-default (c .before .args .t1 .edges) noEdge {n = c .before .args .k} (omega arith))
 
 pub edge-of-spec : {M : Type 1} → statement M
-edge-of-spec = tie.close (tie.spec mul-result element-copy-out-result returns returns-2)
+edge-of-spec = tie.close (tie.spec (λ c. search needs) (λ c. search needs) returns returns-2)

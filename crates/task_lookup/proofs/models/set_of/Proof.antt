@@ -8,12 +8,6 @@ use Rattle.fra_laws.proofs.Lengths.{length-of-map}
 use Rattle.task_lookup.proofs.models.set_of.Statement.{statement}
 use Rattle.task_lookup.proofs.models.set_of.Tie as tie
 
-mul-result : tie.Need-mul-result
-mul-result c = search needs
-
-element-copy-out-result : tie.Need-element-copy-out-result
-element-copy-out-result c = search needs
-
 returns : tie.Need-returns
 unfolding setOf
 returns c = refl
@@ -25,4 +19,4 @@ returns-2 c =
     rw (List·getD-eq-default (c .before .args .t1 .states) noState {n = c .before .args .q} (omega arith))
 
 pub set-of-spec : {M : Type 1} → statement M
-set-of-spec = tie.close (tie.spec mul-result element-copy-out-result returns returns-2)
+set-of-spec = tie.close (tie.spec (λ c. search needs) (λ c. search needs) returns returns-2)

@@ -6,7 +6,7 @@ use native.Mathlib.Omega.{arith}
 use borrow.Author.Needs.{needs}
 use borrow.Author.Tests.{not-true, not-false}
 use Rattle.fra.specs.Registers.{inside, with}
-use Rattle.task_lookup.proofs.Registers.{stays, upTo, all-first, all-here, all-later, all-end}
+use Rattle.task_lookup.proofs.EveryRegister.{stays, upTo, all-first, all-here, all-later, all-end}
 use Rattle.task_lookup.proofs.sets.inside.Statement.{statement}
 use Rattle.task_lookup.proofs.sets.inside.Tie as tie
 
@@ -20,9 +20,6 @@ abbrev μ-loop : tie.MeasureT-loop
 loop-holds : tie.Need-loop-holds Inv-loop μ-loop
 unfolding inside
 loop-holds c = all-first (stays (c .args .set) (c .args .other) (c .args .added)) (c .args .registers)
-
-kept-requires : tie.Need-kept-requires Inv-loop μ-loop
-kept-requires c κs = search needs
 
 returns : tie.Need-returns Inv-loop μ-loop
 returns c =
@@ -70,4 +67,4 @@ returns-3 c =
 pub inside-spec : {M : Type 1} → statement M
 inside-spec =
     tie.close
-    (tie.spec Inv-loop μ-loop loop-holds kept-requires returns add-i loop-less loop-again returns-2 returns-3)
+    (tie.spec Inv-loop μ-loop loop-holds (λ c κs. search needs) returns add-i loop-less loop-again returns-2 returns-3)

@@ -2,12 +2,9 @@
 use mathlib.Core.Path.{sym, _∙_}
 use borrow.Author.Needs.{needs}
 use borrow.Author.Tests.{not-true, not-false}
-use Rattle.task_lookup.proofs.Registers.{stays-outside, stays-inside, stays-added}
+use Rattle.task_lookup.proofs.EveryRegister.{stays-outside, stays-inside, stays-added}
 use Rattle.task_lookup.proofs.sets.kept.Statement.{statement}
 use Rattle.task_lookup.proofs.sets.kept.Tie as tie
-
-has-requires : tie.Need-has-requires
-has-requires c κs = search needs
 
 returns : tie.Need-returns
 returns c =
@@ -15,9 +12,6 @@ returns c =
     sym
     (stays-outside (a .set) (a .other) (a .added) (a .register)
     (sym (c .before .has .ensures) ∙ not-true _ (c .if1 .taken)))
-
-has-requires-2 : tie.Need-has-requires-2
-has-requires-2 c κs = search needs
 
 returns-2 : tie.Need-returns-2
 returns-2 c =
@@ -34,4 +28,4 @@ returns-3 c =
     (sym (c .before .has2 .ensures) ∙ c .if2 .left))
 
 pub kept-spec : {M : Type 1} → statement M
-kept-spec = tie.close (tie.spec has-requires returns has-requires-2 returns-2 returns-3)
+kept-spec = tie.close (tie.spec (λ c κs. search needs) returns (λ c κs. search needs) returns-2 returns-3)

@@ -2,17 +2,18 @@
 use Prim.Native.Nat.{ℕ}
 use mathlib.Core.Path.{_≡_, refl, _∙_, ap}
 use mathlib.Core.Bool.{_&&_}
+use mathlib.Core.List.{List}
 use mathlib.Core.Logic.{⊎-elim}
 use lib.Dec.{ltb, leb}
 use borrow.Author.Tests.{lt-ltb, le-ltb}
 use Rattle.fra.specs.declared.Model.{Model}
 use Rattle.task.specs.TaskFile.{edgeExists}
 use Rattle.task_records.proofs.Chains.{and-next, and-over}
-use Rattle.task_records.proofs.Rules.{body-exists}
+use Rattle.task_records.proofs.RuleTests.{body-exists}
 use Rattle.task_records.proofs.edge.exists.Statement.{statement}
 use Rattle.task_records.proofs.edge.exists.Tie as tie
 
--- the bytes read, and the model
+-- the bytes read, the model and the body
 module _ (c : tie.After-at5) where
   abbrev from : ℕ
   from = c .before .before .before .before .at .result
@@ -30,7 +31,10 @@ module _ (c : tie.After-at5) where
   to = c .at5 .result
 
   abbrev model : Model
-  model = c .before .before .before .before .before .before .args .m
+  model = let first = c .before .before .before .before in first .before .before .args .m
+
+  abbrev body : List ℕ
+  body = let first = c .before .before .before .before in first .before .before .args .body .now
 
 -- the flag after the second, the third, the fourth and the fifth test
 second : (c : tie.Joined1) → let b = c .before .before in
@@ -65,11 +69,11 @@ fifth c =
 -- the answer is that flag and the last test
 whole : (c : tie.Joined4) → let b = c .before .before .before .before .before in
     (c .if4 .if5 && ltb (to b) (model b .«state_count»))
-    ≡ edgeExists (model b) (b .before .before .before .before .before .before .args .body .now)
+    ≡ edgeExists (model b) (body b)
 whole c =
     let b = c .before .before .before .before .before in
     ap (λ f. f && ltb (to b) (model b .«state_count»)) (fifth c)
-    ∙ body-exists (b .before .before .before .before .before .before .args .body .now)
+    ∙ body-exists (body b)
     (b .before .before .before .before .at .ensures)
     (b .before .before .before .at2 .ensures)
     (b .before .before .at3 .ensures)

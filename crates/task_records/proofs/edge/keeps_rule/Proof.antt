@@ -2,7 +2,7 @@
 use mathlib.Core.Path.{sym, _∙_, ap}
 use borrow.Author.Needs.{needs}
 use Rattle.task.specs.TaskFile.{keepsRule}
-use Rattle.task_records.proofs.Rules.{known-inside, known-outside}
+use Rattle.task_records.proofs.RuleTests.{known-inside, known-outside}
 use Rattle.task_records.proofs.edge.keeps_rule.Statement.{statement}
 use Rattle.task_records.proofs.edge.keeps_rule.Tie as tie
 

@@ -1,5 +1,5 @@
 -- `task_records::edge::of_body` meets its contract. Assumes nothing.
-use Rattle.task_records.proofs.Rules.{body-edge}
+use Rattle.task_records.proofs.RuleTests.{body-edge}
 use Rattle.task_records.proofs.edge.of_body.Statement.{statement}
 use Rattle.task_records.proofs.edge.of_body.Tie as tie
 

@@ -4,7 +4,7 @@ use mathlib.Core.Bool.{true}
 use borrow.Author.Tests.{not-true, not-false}
 use Rattle.task.specs.TaskFile.{edgeExists, rises}
 use Rattle.task_records.specs.Ruled.{ruled}
-use Rattle.task_records.proofs.Rules.{edge-6, edge-7, edge-8, edge-9, edge-0}
+use Rattle.task_records.proofs.RuleTests.{edge-6, edge-7, edge-8, edge-9, edge-0}
 use Rattle.task_records.proofs.edge.refusal.Statement.{statement}
 use Rattle.task_records.proofs.edge.refusal.Tie as tie
 
@@ -15,7 +15,8 @@ existing c = sym (c .before .exists .ensures) ∙ not-false _ (c .if1 .left)
 keeping : (c : tie.Else2) → let a = c .before .before .before .before .before .args in ruled (a .m) (a .body .now) ≡ true
 keeping c = sym (c .before .ruled .ensures) ∙ not-false _ (c .if2 .left)
 
-rising : (c : tie.Else3) → let a = c .before .before .before .before .before .before .before .args in
+rising : (c : tie.Else3) → let first = c .before .before .before .before in
+    let a = first .before .before .before .args in
     rises (a .m) (a .body .now) ≡ true
 rising c = sym (c .before .rises .ensures) ∙ not-false _ (c .if3 .left)
 

@@ -1,18 +1,12 @@
 -- `task_records::edge::rises` meets its contract. Assumes nothing.
 use mathlib.Core.Path.{sym, _∙_}
 use borrow.Author.Needs.{needs}
-use Rattle.task_records.proofs.Rules.{rises-first, rises-later}
+use Rattle.task_records.proofs.RuleTests.{rises-first, rises-later}
 use Rattle.task_records.proofs.edge.rises.Statement.{statement}
 use Rattle.task_records.proofs.edge.rises.Tie as tie
 
 returns : tie.Need-returns
 returns c = let a = c .before .before .args in sym (rises-first (a .m) (a .body .now) (c .if1 .taken))
-
-sub-edge-of : tie.Need-sub-edge-of
-sub-edge-of c = search needs
-
-slice-aggregate-below : tie.Need-slice-aggregate-below
-slice-aggregate-below c = search needs
 
 returns-2 : tie.Need-returns-2
 returns-2 c =
@@ -27,9 +21,9 @@ rises-spec =
     tie.close
     (tie.spec
     returns
-    sub-edge-of
+    (λ c. search needs)
     (λ c κs. tt)
     (λ c κs. tt)
-    slice-aggregate-below
+    (λ c. search needs)
     (λ c κs. tt)
     returns-2)

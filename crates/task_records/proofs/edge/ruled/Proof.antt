@@ -1,6 +1,6 @@
 -- `task_records::edge::ruled` meets its contract. Assumes nothing.
 use mathlib.Core.Path.{_∙_}
-use Rattle.task_records.proofs.Rules.{ruled-of}
+use Rattle.task_records.proofs.RuleTests.{ruled-of}
 use Rattle.task_records.proofs.edge.ruled.Statement.{statement}
 use Rattle.task_records.proofs.edge.ruled.Tie as tie
 

@@ -2,7 +2,7 @@
 use mathlib.Core.Path.{sym, _∙_, ap}
 use borrow.Author.Needs.{needs}
 use Rattle.task.specs.TaskFile.{edge}
-use Rattle.task_records.proofs.Places.{edge-elsewhere}
+use Rattle.task_records.proofs.OutOfPlace.{edge-elsewhere}
 use Rattle.task_records.proofs.edge.step.Statement.{statement}
 use Rattle.task_records.proofs.edge.step.Tie as tie
 

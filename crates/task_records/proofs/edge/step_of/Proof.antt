@@ -1,7 +1,7 @@
 -- `task_records::edge::step_of` meets its contract. Assumes nothing.
 use mathlib.Core.Path.{sym, _∙_}
-use Rattle.task_records.proofs.Rules.{edge-room}
-use Rattle.task_records.proofs.Steps.{edge-refused, edge-taken}
+use Rattle.task_records.proofs.RuleTests.{edge-room}
+use Rattle.task_records.proofs.StepResults.{edge-refused, edge-taken}
 use Rattle.task_records.proofs.edge.step_of.Statement.{statement}
 use Rattle.task_records.proofs.edge.step_of.Tie as tie
 

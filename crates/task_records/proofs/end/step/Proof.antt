@@ -3,7 +3,7 @@ use mathlib.Core.Path.{sym, _∙_, ap}
 use borrow.Author.Needs.{needs}
 use Rattle.task.specs.declared.Stage.the-variants.{Edges}
 use Rattle.task.specs.TaskFile.{end}
-use Rattle.task_records.proofs.Places.{end-elsewhere}
+use Rattle.task_records.proofs.OutOfPlace.{end-elsewhere}
 use Rattle.task_records.proofs.end.step.Statement.{statement}
 use Rattle.task_records.proofs.end.step.Tie as tie
 

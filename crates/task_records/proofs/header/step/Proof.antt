@@ -3,7 +3,7 @@ use mathlib.Core.Path.{sym, _∙_, ap}
 use borrow.Author.Needs.{needs}
 use Rattle.task.specs.declared.Stage.the-variants.{Edges}
 use Rattle.task.specs.TaskFile.{header}
-use Rattle.task_records.proofs.Places.{header-elsewhere}
+use Rattle.task_records.proofs.OutOfPlace.{header-elsewhere}
 use Rattle.task_records.proofs.header.step.Statement.{statement}
 use Rattle.task_records.proofs.header.step.Tie as tie
 

@@ -1,6 +1,6 @@
 -- `task_records::header::step_of` meets its contract. Assumes nothing.
 use mathlib.Core.Path.{_∙_}
-use Rattle.task_records.proofs.Steps.{header-refused, header-taken}
+use Rattle.task_records.proofs.StepResults.{header-refused, header-taken}
 use Rattle.task_records.proofs.header.step_of.Statement.{statement}
 use Rattle.task_records.proofs.header.step_of.Tie as tie
 

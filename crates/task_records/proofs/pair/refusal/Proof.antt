@@ -4,7 +4,7 @@ use mathlib.Core.Logic.{⊎-elim, inl, inr}
 use borrow.Author.Tests.{not-true, not-false}
 use borrow.Author.Needs.{needs}
 use Rattle.fra_laws.proofs.Registers.{has-positive}
-use Rattle.task_records.proofs.Rules.{pair-0, pair-10}
+use Rattle.task_records.proofs.RuleTests.{pair-0, pair-10}
 use Rattle.task_records.proofs.pair.refusal.Statement.{statement}
 use Rattle.task_records.proofs.pair.refusal.Tie as tie
 
@@ -12,9 +12,6 @@ rising-requires : tie.Need-rising-requires
 rising-requires c κs =
     let first = c .before .before in
     has-positive _ _ (sym (first .before .held .ensures) ∙ first .if1 .taken)
-
-slice-aggregate-contains : tie.Need-slice-aggregate-contains
-slice-aggregate-contains c = search needs
 
 returns : tie.Need-returns
 returns c =
@@ -47,7 +44,7 @@ refusal-spec =
     (λ c κs. tt)
     (λ c κs. tt)
     rising-requires
-    slice-aggregate-contains
+    (λ c. search needs)
     (λ c κs. tt)
     returns
     returns-2)

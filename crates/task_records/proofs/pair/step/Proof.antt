@@ -3,7 +3,7 @@ use mathlib.Core.Path.{sym, _∙_, ap}
 use borrow.Author.Needs.{needs}
 use Rattle.task.specs.declared.Stage.the-variants.{Edges}
 use Rattle.task.specs.TaskFile.{pair}
-use Rattle.task_records.proofs.Places.{pair-elsewhere}
+use Rattle.task_records.proofs.OutOfPlace.{pair-elsewhere}
 use Rattle.task_records.proofs.pair.step.Statement.{statement}
 use Rattle.task_records.proofs.pair.step.Tie as tie
 

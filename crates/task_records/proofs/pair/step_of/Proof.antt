@@ -1,7 +1,7 @@
 -- `task_records::pair::step_of` meets its contract. Assumes nothing.
 use mathlib.Core.Path.{sym, _∙_}
-use Rattle.task_records.proofs.Rules.{pair-positive}
-use Rattle.task_records.proofs.Steps.{pair-refused, pair-taken}
+use Rattle.task_records.proofs.RuleTests.{pair-positive}
+use Rattle.task_records.proofs.StepResults.{pair-refused, pair-taken}
 use Rattle.task_records.proofs.pair.step_of.Statement.{statement}
 use Rattle.task_records.proofs.pair.step_of.Tie as tie
 

@@ -11,15 +11,6 @@ use Rattle.fra_laws.proofs.Lengths.{length-of-map}
 use Rattle.task_records.proofs.pair.with_pair.Statement.{statement}
 use Rattle.task_records.proofs.pair.with_pair.Tie as tie
 
-sub-start : tie.Need-sub-start
-sub-start c = search needs
-
-cast-start : tie.Need-cast-start
-cast-start c = search needs
-
-element-write-start : tie.Need-element-write-start
-element-write-start c = search needs
-
 returns : tie.Need-returns
 unfolding withPair
 returns c =
@@ -30,4 +21,4 @@ returns c =
     (c .if1 .came)
 
 pub with-pair-spec : {M : Type 1} → statement M
-with-pair-spec = tie.close (tie.spec sub-start cast-start element-write-start returns)
+with-pair-spec = tie.close (tie.spec (λ c. search needs) (λ c. search needs) (λ c. search needs) returns)

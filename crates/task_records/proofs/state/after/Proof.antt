@@ -5,12 +5,6 @@ use Rattle.task.specs.TaskFile.{afterState}
 use Rattle.task_records.proofs.state.after.Statement.{statement}
 use Rattle.task_records.proofs.state.after.Tie as tie
 
-add-if1 : tie.Need-add-if1
-add-if1 c = search needs
-
-add-t7 : tie.Need-add-t7
-add-t7 c = search needs
-
 returns : tie.Need-returns
 unfolding afterState
 returns c = rw (eq-eqb _ _ (c .if1 .taken))
@@ -20,4 +14,4 @@ unfolding afterState
 returns-2 c = rw (ne-eqb _ _ (c .if1 .left))
 
 pub after-spec : {M : Type 1} → statement M
-after-spec = tie.close (tie.spec add-if1 add-t7 returns returns-2)
+after-spec = tie.close (tie.spec (λ c. search needs) (λ c. search needs) returns returns-2)

@@ -3,7 +3,7 @@ use mathlib.Core.Path.{sym, _∙_, ap, subst}
 use borrow.Author.Needs.{needs}
 use Rattle.task.specs.TaskFile.{state}
 use Rattle.task_records.specs.Due.{Due}
-use Rattle.task_records.proofs.Places.{state-elsewhere}
+use Rattle.task_records.proofs.OutOfPlace.{state-elsewhere}
 use Rattle.task_records.proofs.state.step.Statement.{statement}
 use Rattle.task_records.proofs.state.step.Tie as tie
 

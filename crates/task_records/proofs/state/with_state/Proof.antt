@@ -5,15 +5,9 @@ use Rattle.task.specs.TaskFile.{withState}
 use Rattle.task_records.proofs.state.with_state.Statement.{statement}
 use Rattle.task_records.proofs.state.with_state.Tie as tie
 
-mul-t8 : tie.Need-mul-t8
-mul-t8 c = search needs
-
-element-set-from-n : tie.Need-element-set-from-n
-element-set-from-n c = search needs
-
 returns : tie.Need-returns
 unfolding withState
 returns c = refl
 
 pub with-state-spec : {M : Type 1} → statement M
-with-state-spec = tie.close (tie.spec mul-t8 element-set-from-n returns)
+with-state-spec = tie.close (tie.spec (λ c. search needs) (λ c. search needs) returns)

@@ -1,0 +1,99 @@
+-- `comparer_explore::expand::visit_edges` meets its contract. The loop's invariant: the keys wanted of the right edges passed are
+-- held. Assumes nothing.
+use Prim.Native.Nat.{ℕ, _-_}
+use mathlib.Core.Path.{_∙_}
+use mathlib.Core.List.{List}
+use native.Mathlib.Omega.{arith}
+use borrow.Author.Needs.{needs}
+use Rattle.fra.specs.declared.Position.{Position}
+use Rattle.fra.specs.declared.Side.the-variants.{Right}
+use Rattle.game_index.specs.Reading.{modelIn}
+use Rattle.game_index.specs.Transitions.{transitionOf}
+use Rattle.game_index.specs.declared.Transition.{Transition}
+use Rattle.comparer_explore_laws.specs.Growth.{Passed}
+use Rattle.comparer_explore_laws.specs.EdgeKeys.{PairKey}
+use Rattle.comparer_explore_laws.proofs.Growth.{passed-none, passed-next, passed-overflows, passed-all}
+use Rattle.comparer_explore.proofs.expand.visit_edges.Statement.{statement}
+use Rattle.comparer_explore.proofs.expand.visit_edges.Tie as tie
+
+-- what is wanted of a right edge
+abbrev wanted : Position → Transition → List ℕ → ℕ → ℕ → Type 0
+wanted p left index k = PairKey p left (transitionOf (modelIn index Right) k)
+
+abbrev Inv-loop : tie.InvT-loop
+Inv-loop table₀ n p left index end m₀ k₀ table m k = Passed k₀ end (wanted p left index) k n table₀ m table
+
+abbrev μ-loop : tie.MeasureT-loop
+μ-loop table₀ n p left index end m₀ k₀ table m k = end - k
+
+loop-holds : tie.Need-loop-holds Inv-loop μ-loop
+loop-holds c =
+    let a = c .before .args in
+    passed-none (a .edges .first) (a .edges .end) (wanted (a .p) (a .left) (a .index .now)) (c .before .pre .0)
+
+visit-pair-requires : tie.Need-visit-pair-requires Inv-loop μ-loop
+visit-pair-requires c κs = c .before .before .before .loop .inv .visited .grows .stored
+
+same-length : tie.Need-same-length Inv-loop μ-loop
+same-length c =
+    let call = c .before .before .before .before in
+    let at-loop = call .before .before .before .before in
+    call .visit-pair .kept .0 ∙ at-loop .loop .inv .visited .grows .long
+
+returns : tie.Need-returns Inv-loop μ-loop
+returns c =
+    let call = c .before .before .before .before in
+    let read = call .before .before in
+    let turn = read .before in
+    let a = turn .before .before .before .args in
+    passed-overflows (a .edges .first) (a .edges .end) (wanted (a .p) (a .left) (a .index .now)) (turn .loop-test .taken)
+    (turn .before .loop .inv)
+    (rw (c .enum-told .given .1, read .transition-at .ensures) at (call .visit-pair .ensures))
+
+add-k : tie.Need-add-k Inv-loop μ-loop
+add-k c =
+    let call = c .before .before .before .before .before in
+    let at-loop = call .before .before .before .before in
+    let start = at-loop .before .before in
+    omega (arith, start .good .1 .1 .1 .1 .1 .0)
+
+loop-less : tie.Need-loop-less Inv-loop μ-loop
+loop-less c = omega arith
+
+loop-again : tie.Need-loop-again Inv-loop μ-loop
+loop-again c =
+    let call = c .before .before .before .before .before in
+    let read = call .before .before in
+    let turn = read .before in
+    let a = turn .before .before .before .args in
+    passed-next (a .edges .first) (a .edges .end) (wanted (a .p) (a .left) (a .index .now)) (turn .loop-test .taken)
+    (turn .before .loop .inv)
+    (rw (c .before .more .given .1, read .transition-at .ensures) at (call .visit-pair .ensures))
+
+same-length-2 : tie.Need-same-length-2 Inv-loop μ-loop
+same-length-2 c = c .before .loop .inv .visited .grows .long
+
+returns-2 : tie.Need-returns-2 Inv-loop μ-loop
+returns-2 c =
+    let a = c .before .before .before .args in
+    passed-all (a .edges .first) (a .edges .end) (wanted (a .p) (a .left) (a .index .now)) (c .loop-test .left)
+    (c .before .loop .inv)
+
+pub visit-edges-spec : {M : Type 1} → statement M
+visit-edges-spec =
+    tie.close
+    (tie.spec
+    Inv-loop
+    μ-loop
+    loop-holds
+    (λ c κs. search needs)
+    visit-pair-requires
+    (λ c. search needs)
+    (λ c. search needs)
+    same-length
+    returns
+    add-k
+    loop-less
+    loop-again
+    same-length-2
+    returns-2)

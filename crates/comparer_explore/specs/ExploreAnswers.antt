@@ -1,0 +1,40 @@
+-- What an insertion into the set of keys, a visit of wanted keys and the exploring of a task answer.
+use Prim.Native.Nat.{ℕ, suc}
+use mathlib.Core.Path.{_≡_}
+use mathlib.Core.Bool.{true, false}
+use mathlib.Core.List.{List, map}
+use lib.ListN.{length}
+use lib.Dec.{ltb}
+use Rattle.fra.specs.Rules.{Rules}
+use Rattle.fra.specs.Reach.{reached}
+use Rattle.fra.specs.declared.Task.{Task}
+use Rattle.outcome.specs.Compare.{capacity}
+use Rattle.table_laws.specs.Keys.{keyOf}
+use Rattle.table_laws.specs.Sorted.{Permuted}
+use Rattle.table_laws.specs.Table.{keys}
+use Rattle.comparer_explore_laws.specs.Growth.{Completes, Overflows}
+use Rattle.comparer_explore.specs.declared.Explored.{Explored}
+use Rattle.comparer_explore.specs.declared.Explored.the-variants.{Count, TooMany}
+use Rattle.comparer_explore.specs.declared.set.Inserted.{Inserted}
+use Rattle.comparer_explore.specs.declared.set.Inserted.the-variants.{Present, Added, Full}
+
+-- the first n entries hold the key already; or entry n does now; or there is no entry n
+abbrev pub Inserts : ℕ → ℕ → List ℕ → Inserted → List ℕ → Type 0
+Inserts n k old Present new = Completes (λ x. x ≡ k) n old n new
+Inserts n k old Added new = Completes (λ x. x ≡ k) n old (suc n) new
+Inserts n k old Full new = Overflows (λ x. x ≡ k) n old new
+
+-- all wanted keys are held, by m entries; or one of them has no room
+abbrev pub Visited : (ℕ → Type 0) → ℕ → List ℕ → Explored → List ℕ → Type 0
+Visited Wanted n old (Count m) new = Completes Wanted n old m new
+Visited Wanted n old TooMany new = Overflows Wanted n old new
+
+-- the answer where n positions are reached and the table has room for so many
+unfoldable pub exploredIn : ℕ → ℕ → Explored
+exploredIn room n = elim (ltb room n) [ true ↦ TooMany | false ↦ Count n ]
+
+-- the answer, and the table after it: the first words of its entries are the keys of the positions reached, in some order
+pub record Explores (g : Rules) (t : Task) (old : List ℕ) (r : Explored) (new : List ℕ) : Type 0 where
+  pub answer : r ≡ exploredIn (capacity old) (length (reached g t))
+  pub long : length new ≡ length old
+  pub found : (n : ℕ) → r ≡ Count n → Permuted (keys n new) (map keyOf (reached g t))

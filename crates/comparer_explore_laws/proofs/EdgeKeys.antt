@@ -1,0 +1,58 @@
+-- The keys of successors are those wanted of the left edges that start in the position's left state. Assumes nothing.
+use Prim.Native.Nat.{ℕ, _-_}
+use mathlib.Core.Path.{_≡_, refl, sym, _∙_, ap}
+use mathlib.Core.Bool.{true}
+use mathlib.Core.List.{List}
+use Rattle.fra.specs.Model.{edgeOf}
+use Rattle.fra.specs.Position.{legal}
+use Rattle.fra.specs.declared.Position.{Position}
+use Rattle.fra.specs.declared.Side.the-variants.{Left, Right}
+use Rattle.fra_laws.proofs.Successors.{Pair, successors-by-pairs}
+use Rattle.game_moves.proofs.AttacksBySide.{moved-to}
+use Rattle.game_index.specs.Reading.{modelIn, taskIn, rulesIn}
+use Rattle.game_index.specs.Ranges.{stateRange}
+use Rattle.game_index.specs.Writing.{Index}
+use Rattle.game_index.specs.declared.Range.{Range}
+use Rattle.game_index.proofs.Reading.{index-model, sized-in}
+use Rattle.game_index.proofs.EdgeRanges.{state-inside, tag-inside, state-range-edge, tag-range-edge}
+use Rattle.table_laws.specs.Keys.{keyOf}
+use Rattle.comparer_explore_laws.specs.Growth.{Among}
+use Rattle.comparer_explore_laws.specs.EdgeKeys.{EdgeKey}
+use Rattle.comparer_explore_laws.specs.Exploring.{SuccessorKey}
+
+module _ {b : List ℕ} (index : Index b) (p : Position) (legal-p : legal 6 (taskIn b) p ≡ true) where
+  abbrev edges : Range
+  edges = stateRange (modelIn b Left) (p .left)
+
+  pub edges-of-successors : (k : ℕ) → SuccessorKey (rulesIn b) (taskIn b) p k → Among (edges .first) (edges .end) (EdgeKey b p) k
+  unfolding taskIn
+  edges-of-successors k (q, m, d) =
+      let (i, j, x, f) = successors-by-pairs (index .indexable .valid) (rulesIn b) p legal-p Left (index .attacked) q .0 m in
+      let (first, end) =
+      state-inside (index-model index Left) (sized-in b Left) (p .left) i (record { exists = x .exists; starts = x .starts }) in
+      let (other-first, other-end) =
+      tag-inside (index-model index Right) (sized-in b Right) (p .right) (edgeOf (modelIn b Left) i .tag) j
+      (record { exists = x .other-exists; starts = x .other-starts; tagged = x .tag }) in
+      let after = moved-to (taskIn b) p (edgeOf (modelIn b Left) i) (edgeOf (modelIn b Right) j) in
+      (i, first, end, (j, other-first, other-end, (x .joint, d ∙ ap keyOf (f ∙ sym after))))
+
+  pub successors-of-edges : (k : ℕ) → Among (edges .first) (edges .end) (EdgeKey b p) k → SuccessorKey (rulesIn b) (taskIn b) p k
+  unfolding taskIn
+  successors-of-edges k (i, first, end, (j, other-first, other-end, (joint, d))) =
+      let own = state-range-edge (index-model index Left) (sized-in b Left) (p .left) i first end in
+      let tag = edgeOf (modelIn b Left) i .tag in
+      let reply = tag-range-edge (index-model index Right) (sized-in b Right) (p .right) tag j other-first other-end in
+      let pair : Pair (taskIn b) p Left i j =
+      record {
+        exists = own .exists;
+        other-exists = reply .exists;
+        starts = own .starts;
+        other-starts = reply .starts;
+        tag = reply .tagged;
+        joint = joint;
+      } in
+      let after = moved-to (taskIn b) p (edgeOf (modelIn b Left) i) (edgeOf (modelIn b Right) j) in (
+        _,
+        successors-by-pairs (index .indexable .valid) (rulesIn b) p legal-p Left (index .attacked) _ .1 (i, j, pair, refl),
+        d ∙ ap keyOf after,
+      )

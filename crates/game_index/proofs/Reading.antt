@@ -1,0 +1,98 @@
+-- What is read of the bytes of an index: its models' states and edges, and the rules. Assumes nothing.
+use Prim.Native.Nat.{ℕ, _+_, _*_, _≤_, _<_}
+use mathlib.Core.Path.{_≡_, refl, _∙_, ap}
+use mathlib.Core.Bool.{Bool, false, _&&_, _||_, and-true, and-false, or-false}
+use mathlib.Core.List.{List}
+use native.Mathlib.Omega.{arith}
+use lib.ListN.{getD, List·getD-eq-default}
+use lib.Dec.{ltb}
+use borrow.Author.Tests.{lt-ltb, le-ltb}
+use Rattle.fra.specs.Model.{noState, noEdge, setOf, markOf, edgeOf}
+use Rattle.fra.specs.Rules.{modelOf}
+use Rattle.fra.specs.Game.{lostAtOnce}
+use Rattle.fra.specs.declared.State.{State}
+use Rattle.fra.specs.declared.Position.{Position}
+use Rattle.fra.specs.declared.Side.{Side}
+use Rattle.fra.specs.declared.Side.the-variants.{Left, Right}
+use Rattle.fra_laws.proofs.Legal.{valid-side}
+use Rattle.game_index.specs.Layout.{statesAt, statePlaces, stateWidth, edgePlaces, losesAt}
+use Rattle.game_index.specs.Reading.{sideByte, stateIn, edgeIn, modelIn, taskIn, flagIn, rulesIn}
+use Rattle.game_index.specs.Writing.{Sized, IndexableModel, Index}
+use Rattle.fra_laws.proofs.ByPlace.{places-length, places-at}
+
+-- ── The task ──
+
+pub model-in : (b : List ℕ) (s : Side) → modelOf (taskIn b) s ≡ modelIn b s
+unfolding taskIn
+model-in b Left = refl
+model-in b Right = refl
+
+-- the model of a side is one that has an index
+pub index-model : {b : List ℕ} → Index b → (s : Side) → IndexableModel (modelIn b s)
+index-model {b} h s =
+    record {
+      valid = rw (model-in b s) at (valid-side (h .indexable .valid) s);
+      tags = rw (model-in b s) at (h .indexable .tags s);
+    }
+
+-- ── The states and the edges of a side ──
+
+module _ (b : List ℕ) (s : Side) where
+  pub sized-in : Sized (modelIn b s)
+  unfolding modelIn
+  sized-in =
+      record { states = places-length (stateIn b s) statePlaces; edges = places-length (edgeIn b s) edgePlaces }
+
+  module _ (q : ℕ) where
+    state-in : q < statePlaces → getD (modelIn b s .states) q noState ≡ stateIn b s q
+    unfolding modelIn
+    state-in h = places-at (stateIn b s) statePlaces q noState h
+
+    pub set-in : q < statePlaces → setOf (modelIn b s) q ≡ sideByte b s (statesAt + stateWidth * q)
+    unfolding setOf
+    set-in h = ap (λ (x : State). x .set) (state-in h)
+
+    pub mark-in : q < statePlaces → markOf (modelIn b s) q ≡ sideByte b s (statesAt + stateWidth * q + 1)
+    unfolding markOf
+    mark-in h = ap (λ (x : State). x .mark) (state-in h)
+
+    -- past the states there is none
+    no-state : statePlaces ≤ q → getD (modelIn b s .states) q noState ≡ noState
+    no-state h = List·getD-eq-default (modelIn b s .states) noState {n = q} (omega (arith, sized-in .states))
+
+    pub no-set : statePlaces ≤ q → setOf (modelIn b s) q ≡ 0
+    unfolding setOf
+    no-set h = ap (λ (x : State). x .set) (no-state h)
+
+    pub no-mark : statePlaces ≤ q → markOf (modelIn b s) q ≡ 0
+    unfolding markOf
+    no-mark h = ap (λ (x : State). x .mark) (no-state h)
+
+  pub edge-in : (k : ℕ) → k < edgePlaces → edgeOf (modelIn b s) k ≡ edgeIn b s k
+  unfolding modelIn edgeOf
+  edge-in k h = places-at (edgeIn b s) edgePlaces k noEdge h
+
+  pub no-edge : (k : ℕ) → edgePlaces ≤ k → edgeOf (modelIn b s) k ≡ noEdge
+  unfolding edgeOf
+  no-edge k h = List·getD-eq-default (modelIn b s .edges) noEdge {n = k} (omega (arith, sized-in .edges))
+
+-- ── The rules ──
+
+-- end marks l and r lose at once by the flag of the side with the higher one
+module _ (b : List ℕ) (p : Position) (l r : ℕ) (e : l ≡ markOf (modelIn b Left) (p .left))
+    (f : r ≡ markOf (modelIn b Right) (p .right)) where
+  abbrev lost-at-once : Bool
+  lost-at-once = lostAtOnce (rulesIn b) (taskIn b) p
+
+  lost-in : lost-at-once ≡ ((flagIn b losesAt Left && ltb r l) || (flagIn b losesAt Right && ltb l r))
+  unfolding lostAtOnce taskIn rulesIn
+  lost-in = rw (← e, ← f)
+
+  pub lost-left : r < l → lost-at-once ≡ flagIn b losesAt Left
+  lost-left h = lost-in ∙ rw (lt-ltb r l h, le-ltb l r (omega arith), and-true, and-false, or-false)
+
+  pub lost-right : l < r → lost-at-once ≡ flagIn b losesAt Right
+  lost-right h = lost-in ∙ rw (le-ltb r l (omega arith), lt-ltb l r h, and-true, and-false)
+
+  pub lost-neither : l ≡ r → lost-at-once ≡ false
+  lost-neither h = lost-in ∙ simp (le-ltb r l (omega arith), le-ltb l r (omega arith), and-false)

@@ -1,0 +1,76 @@
+-- The task and the rules that an index holds.
+use Prim.Native.Nat.{ℕ, _+_, _*_}
+use mathlib.Core.Bool.{Bool, not, _&&_, _||_}
+use mathlib.Core.List.{List, map}
+use lib.ListN.{getD}
+use lib.Dec.{ltb, eqb}
+use Rattle.fra.specs.Lists.{count}
+use Rattle.fra.specs.Model.{kindOf}
+use Rattle.fra.specs.Rules.{Rules}
+use Rattle.fra.specs.declared.State.{State}
+use Rattle.fra.specs.declared.Edge.{Edge}
+use Rattle.fra.specs.declared.Model.{Model}
+use Rattle.fra.specs.declared.Position.{Position}
+use Rattle.fra.specs.declared.Task.{Task}
+use Rattle.fra.specs.declared.Side.{Side}
+use Rattle.fra.specs.declared.Side.the-variants.{Left, Right}
+use Rattle.game_index.specs.Layout.{registersAt, beginAt, stateCountAt, edgeCountAt, statesAt, statePlaces, stateWidth, edgesAt, edgePlaces, edgeWidth, sideWidth, startAt, attacksAt, losesAt, tagField, kindField, registerField, toField}
+
+-- byte i of a side
+abbrev pub sideByte : List ℕ → Side → ℕ → ℕ
+sideByte b Left i = getD b i 0
+sideByte b Right i = getD b (sideWidth + i) 0
+
+-- byte i of an edge
+abbrev pub edgeByte : List ℕ → Side → ℕ → ℕ → ℕ
+edgeByte b s k i = sideByte b s (edgesAt + edgeWidth * k + i)
+
+abbrev pub stateIn : List ℕ → Side → ℕ → State
+stateIn b s q =
+    record { set = sideByte b s (statesAt + stateWidth * q); mark = sideByte b s (statesAt + stateWidth * q + 1) }
+
+abbrev pub edgeIn : List ℕ → Side → ℕ → Edge
+edgeIn b s k =
+    record {
+      from = edgeByte b s k 0;
+      tag = edgeByte b s k tagField;
+      kind = kindOf (edgeByte b s k kindField) (edgeByte b s k registerField);
+      to = edgeByte b s k toField;
+    }
+
+unfoldable pub modelIn : List ℕ → Side → Model
+modelIn b s =
+    record {
+      registers = sideByte b s registersAt;
+      start = sideByte b s beginAt;
+      «state_count» = sideByte b s stateCountAt;
+      «edge_count» = sideByte b s edgeCountAt;
+      states = map (stateIn b s) (count 0 statePlaces);
+      edges = map (edgeIn b s) (count 0 edgePlaces);
+    }
+
+-- eight bytes: two states, six partners
+abbrev pub startIn : List ℕ → Position
+startIn b =
+    record {
+      left = getD b startAt 0;
+      right = getD b (startAt + 1) 0;
+      partners = map (λ i. getD b (startAt + 2 + i) 0) (count 0 6);
+    }
+
+unfoldable pub taskIn : List ℕ → Task
+taskIn b = record { left = modelIn b Left; right = modelIn b Right; start = startIn b }
+
+-- the byte of a side among the two from a place on is not 0
+abbrev pub flagIn : List ℕ → ℕ → Side → Bool
+flagIn b at Left = not (eqb (getD b at 0) 0)
+flagIn b at Right = not (eqb (getD b (at + 1) 0) 0)
+
+-- a side attacks if its flag says so; a position is lost at once where an end mark is higher than the other side's and its side's
+-- flag says that this loses
+unfoldable pub rulesIn : List ℕ → Rules
+rulesIn b =
+    record {
+      attacks = flagIn b attacksAt;
+      lost = λ l r. (flagIn b losesAt Left && ltb r l) || (flagIn b losesAt Right && ltb l r);
+    }

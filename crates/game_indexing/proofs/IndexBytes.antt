@@ -1,0 +1,86 @@
+-- What stands in the bytes of an index. Assumes nothing.
+use Prim.Native.Nat.{ℕ, suc, _+_, _*_, _≤_, _<_}
+use mathlib.Core.Path.{_≡_, refl, _∙_}
+use mathlib.Core.List.{List, _++_}
+use native.Mathlib.Omega.{arith}
+use lib.ListN.{length, getD, List·getD-append}
+use lib.Seq.{getD-append-add}
+use Rattle.fra.specs.Model.{noState, noEdge, edgeBytes}
+use Rattle.fra.specs.Position.{bytes}
+use Rattle.fra.specs.Rules.{modelOf}
+use Rattle.fra.specs.declared.Model.{Model}
+use Rattle.fra.specs.declared.Task.{Task}
+use Rattle.fra.specs.declared.Side.{Side}
+use Rattle.fra.specs.declared.Side.the-variants.{Left, Right}
+use Rattle.game_index.specs.Layout.{statesAt, statePlaces, stateWidth, edgesAt, edgePlaces, edgeWidth, codes, firstsAt, sideWidth, startAt, attacksAt}
+use Rattle.game_index.specs.Reading.{sideByte}
+use Rattle.game_index.specs.Ranges.{firstEdge}
+use Rattle.game_index.specs.Writing.{stateBytes, edgeEntry, countBytes, sideBytes, of, Sized}
+use Rattle.fra_laws.proofs.ByPlace.{places-at}
+use Rattle.game_indexing.proofs.EqualStrings.{strings-at}
+use Rattle.game_indexing.proofs.IndexParts.{statesPart, edgesPart, firstsPart, fromEdges, fromStates, states-length, edges-length}
+use Rattle.game_indexing.proofs.IndexParts.{rules, SizedTask, fromStart, fromRight, left-length, right-length, start-length}
+
+-- byte i behind n others
+behind : (a l : List ℕ) (n i : ℕ) → length a ≡ n → getD (a ++ l) (n + i) 0 ≡ getD l i 0
+behind a l n i e = rw (← e) (getD-append-add a l i 0)
+
+-- ── A side ──
+
+module _ (m : Model) (sized : Sized m) where
+  after-counts : (i : ℕ) → getD (sideBytes m) (statesAt + i) 0 ≡ getD (fromStates m) i 0
+  unfolding sideBytes
+  after-counts i = behind (countBytes m) (fromStates m) statesAt i refl
+
+  after-states : (i : ℕ) → getD (sideBytes m) (edgesAt + i) 0 ≡ getD (fromEdges m) i 0
+  after-states i =
+      let place : edgesAt + i ≡ statesAt + (32 + i) = omega arith in
+      rw place (after-counts (32 + i) ∙ behind (statesPart m) (fromEdges m) 32 i (omega (arith, states-length m sized)))
+
+  after-edges : (i : ℕ) → getD (sideBytes m) (firstsAt + i) 0 ≡ getD (firstsPart m) i 0
+  after-edges i =
+      let place : firstsAt + i ≡ edgesAt + (512 + i) = omega arith in
+      rw place (after-states (512 + i) ∙ behind (edgesPart m) (firstsPart m) 512 i (omega (arith, edges-length m sized)))
+
+  pub state-byte : (q i : ℕ) → q < statePlaces → i < stateWidth
+      → getD (sideBytes m) (statesAt + (stateWidth * q + i)) 0 ≡ getD (stateBytes (getD (m .states) q noState)) i 0
+  state-byte q i h b =
+      after-counts (stateWidth * q + i)
+      ∙ strings-at stateBytes stateWidth (λ s. refl) (m .states) (fromEdges m) q i noState (omega (arith, sized .states)) b
+
+  pub edge-byte : (k i : ℕ) → k < edgePlaces → i < edgeWidth
+      → getD (sideBytes m) (edgesAt + (edgeWidth * k + i)) 0 ≡ getD (edgeEntry m (getD (m .edges) k noEdge)) i 0
+  unfolding edgeBytes
+  edge-byte k i h b =
+      after-states (edgeWidth * k + i)
+      ∙ strings-at (edgeEntry m) edgeWidth (λ e. refl) (m .edges) (firstsPart m) k i noEdge (omega (arith, sized .edges)) b
+
+  pub first-byte : (c : ℕ) → c ≤ codes → getD (sideBytes m) (firstsAt + c) 0 ≡ firstEdge m c
+  first-byte c h = after-edges c ∙ places-at (firstEdge m) (suc codes) c 0 (omega arith)
+
+-- ── The whole ──
+
+module _ (t : Task) (sized : SizedTask t) where
+  after-left : (i : ℕ) → getD (of t) (sideWidth + i) 0 ≡ getD (fromRight t) i 0
+  unfolding of
+  after-left i = behind (sideBytes (t .left)) (fromRight t) sideWidth i (left-length t sized)
+
+  after-right : (i : ℕ) → getD (of t) (startAt + i) 0 ≡ getD (fromStart t) i 0
+  after-right i =
+      let place : startAt + i ≡ sideWidth + (sideWidth + i) = omega arith in
+      rw place
+      (after-left (sideWidth + i) ∙ behind (sideBytes (t .right)) (fromStart t) sideWidth i (right-length t sized))
+
+  pub side-byte : (s : Side) (i : ℕ) → i < sideWidth → sideByte (of t) s i ≡ getD (sideBytes (modelOf t s)) i 0
+  unfolding of
+  side-byte Left i h = List·getD-append (sideBytes (t .left)) (fromRight t) 0 i (omega (arith, left-length t sized))
+  side-byte Right i h =
+      after-left i ∙ List·getD-append (sideBytes (t .right)) (fromStart t) 0 i (omega (arith, right-length t sized))
+
+  pub start-byte : (i : ℕ) → i < 8 → getD (of t) (startAt + i) 0 ≡ getD (bytes (t .start)) i 0
+  start-byte i h = after-right i ∙ List·getD-append (bytes (t .start)) rules 0 i (omega (arith, start-length t sized))
+
+  pub rule-byte : (i : ℕ) → i < 4 → getD (of t) (attacksAt + i) 0 ≡ getD rules i 0
+  rule-byte i h =
+      let place : attacksAt + i ≡ startAt + (8 + i) = omega arith in
+      rw place (after-right (8 + i) ∙ behind (bytes (t .start)) rules 8 i (omega (arith, start-length t sized)))

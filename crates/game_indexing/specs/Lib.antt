@@ -1,0 +1,2 @@
+-- What an index of a task gives.
+pub mod Indexed

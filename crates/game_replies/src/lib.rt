@@ -1,0 +1,137 @@
+// What an attack asks of its replies, and the search for them among the edges of the other side.
+use fra::Attack;
+use fra::EdgeKind;
+use fra::IdCase;
+use fra::Position;
+use fra::Side;
+use game_index::Range;
+use game_index::layout::SIZE;
+use game_moves::rounds;
+use game_moves::rounds::Target;
+ghost use mathlib.Core.Path.{_≡_};
+ghost use mathlib.Core.Bool.{cond};
+ghost use Rattle.fra.specs.Model.{isLocallyFresh, isFresh};
+ghost use Rattle.fra.specs.Rules.{other};
+ghost use Rattle.fra.specs.Game.{answers};
+ghost use Rattle.game_index.specs.Reading.{modelIn, taskIn};
+ghost use Rattle.game_index.specs.Writing.{Index};
+ghost use Rattle.game_replies.specs.Challenges.{challengeOf, inCase, afterReply};
+ghost use Rattle.game_replies.specs.ReplySearch.{replyFrom};
+
+// An attack as its replies see it: its side, where its edge leads, the partner of that edge's register, the id case, and the edges
+// of the other side that start in its state and have the attack's tag. It holds no matching.
+pub struct Challenge {
+    pub side: Side,
+    pub target: Target,
+    pub partner: u8,
+    pub case: IdCase,
+    pub edges: Range,
+}
+
+impl Challenge {
+    // What an attack asks.
+    pub fn of(index: &[u8; SIZE], p: Position, a: Attack) -> Self
+        requires { ⌜ Index (now index) ⌝ }
+        ensures { λ r. ⌜ r ≡ challengeOf (taskIn (now (index .entry))) p a ⌝ }
+    {
+        let side = a.side;
+        let case = a.case;
+        let away = side.other();
+        let e = game_index::edge_at(index, side, a.edge);
+        let transition = game_index::transition_at(index, side, a.edge);
+        let target = transition.target;
+        let edges = game_index::tagged(index, away, p.state(away), e.tag);
+        Challenge {
+            side,
+            target,
+            partner: p.partner(side, target.register),
+            case,
+            edges,
+        }
+    }
+
+    // The same edge in another id case.
+    pub fn in_case(self, case: IdCase) -> Self
+        ensures { λ r. ⌜ r ≡ inCase self case ⌝ }
+    {
+        let side = self.side;
+        let target = self.target;
+        let edges = self.edges;
+        Challenge {
+            side,
+            target,
+            partner: self.partner,
+            case,
+            edges,
+        }
+    }
+
+    // The position after a reply that leads there.
+    pub fn after(self, p: Position, reply: Target) -> Position
+        ensures { λ r. ⌜ r ≡ afterReply self p reply ⌝ }
+    {
+        let side = self.side;
+        let own = self.target;
+        match side {
+            Side::Left => rounds::moved(p, own, reply),
+            Side::Right => rounds::moved(p, reply, own),
+        }
+    }
+}
+
+// A reply, by where it leads and its edge's number; or there is none.
+pub enum Reply {
+    To(Target, u8),
+    Missing,
+}
+
+// An edge of this kind takes a number that neither reader holds, a new one or one seen before.
+fn takes_unheld(kind: EdgeKind, new: bool) -> bool
+    ensures { λ r. ⌜ r ≡ cond new (isFresh kind) (isLocallyFresh kind) ⌝ }
+{
+    if new {
+        kind.is_fresh()
+    } else {
+        kind.is_locally_fresh()
+    }
+}
+
+// An edge of this kind answers the id case, where the attacking edge's register has this partner.
+fn answers(partner: u8, case: IdCase, kind: EdgeKind) -> bool
+    ensures { λ r. ⌜ r ≡ answers partner case kind ⌝ }
+{
+    match case {
+        IdCase::Held => {
+            if partner == 0 {
+                kind.is_locally_fresh()
+            } else {
+                kind.is_known(partner)
+            }
+        }
+        IdCase::Private(j) => kind.is_known(j),
+        IdCase::Seen => takes_unheld(kind, false),
+        IdCase::New => takes_unheld(kind, true),
+    }
+}
+
+// The first reply to a challenge from an edge on.
+pub fn next_reply(index: &[u8; SIZE], challenge: Challenge, from: u8) -> Reply
+    requires { ⌜ Index (now index) ⌝ }
+    ensures { λ r. ⌜ r ≡ replyFrom (modelIn (now (index .entry)) (other (challenge .side))) challenge from ⌝ }
+{
+    let side = challenge.side;
+    let case = challenge.case;
+    let edges = challenge.edges;
+    let away = side.other();
+    let mut k = from;
+    while k < edges.end {
+        let transition = game_index::transition_at(index, away, k);
+        let kind = transition.kind;
+        if answers(challenge.partner, case, kind) {
+            let target = transition.target;
+            return Reply::To(target, k);
+        }
+        k += 1;
+    }
+    Reply::Missing
+}

@@ -1,0 +1,190 @@
+// Records of positions in lent bytes, rising by position: the entries of the table, and the records of a certificate. One search
+// looks a position up in either.
+use crate::words::joined;
+use crate::words::put_word;
+use crate::words::word_at;
+use fra::Position;
+use outcome::layout;
+ghost use Prim.Native.Nat.{_+_, _≤_, _<_};
+ghost use mathlib.Core.Path.{_≡_};
+ghost use lib.ListN.{length, take, drop};
+ghost use lib.Seq.{sets};
+ghost use Rattle.fra.specs.Position.{bytes, before};
+ghost use Rattle.outcome.specs.Bytes.{wordAt};
+ghost use Rattle.outcome.specs.Check.{positionOf};
+ghost use Rattle.listing.specs.Widths.{positionWidth};
+ghost use Rattle.listing.specs.Digits.{value};
+ghost use Rattle.listing.specs.Listing.{ofTable, ofKept, ofLost, positionAt, roundsAt, positionsIn, Fitting, Searchable, Bound};
+ghost use Rattle.listing.specs.Lookup.{placeOf};
+
+pub mod words;
+
+// How many records there are, the bytes of each, and where a record's position and rounds stand in it. Records without rounds
+// have no use for their place.
+pub struct Listing {
+    pub count: usize,
+    pub width: usize,
+    pub position: usize,
+    pub rounds: usize,
+}
+
+impl Listing {
+    // The first entries of the table.
+    pub fn of_table(count: usize) -> Self
+        ensures { λ r. ⌜ r ≡ ofTable count ⌝ }
+    {
+        Listing {
+            count,
+            width: layout::ENTRY,
+            position: 0,
+            rounds: layout::ENTRY_ROUNDS,
+        }
+    }
+
+    // A certificate's records of positions that are never lost.
+    pub fn of_kept(count: usize) -> Self
+        ensures { λ r. ⌜ r ≡ ofKept count ⌝ }
+    {
+        Listing {
+            count,
+            width: layout::KEPT_WIDTH,
+            position: layout::POSITION,
+            rounds: 0,
+        }
+    }
+
+    // A certificate's records of lost positions.
+    pub fn of_lost(count: usize) -> Self
+        ensures { λ r. ⌜ r ≡ ofLost count ⌝ }
+    {
+        Listing {
+            count,
+            width: layout::LOST_WIDTH,
+            position: layout::POSITION,
+            rounds: layout::ROUNDS,
+        }
+    }
+}
+
+// Where a look-up finds a position.
+pub enum Place {
+    At(usize),
+    Nowhere,
+}
+
+// The position whose eight bytes start here.
+fn position_from(list: &[u8], at: usize) -> Position
+    requires { ⌜ at + positionWidth ≤ length (now list) ⌝ }
+    ensures { λ r. ⌜ r ≡ positionOf 6 (drop at (now (list .entry))) ⌝ }
+{
+    let partners = [
+        list[at + 2],
+        list[at + 3],
+        list[at + 4],
+        list[at + 5],
+        list[at + 6],
+        list[at + 7],
+    ];
+    Position {
+        left: list[at],
+        right: list[at + 1],
+        partners,
+    }
+}
+
+// The position of record i.
+pub fn position_at(list: &[u8], records: Listing, i: usize) -> Position
+    requires { ⌜ Fitting records (now list) × (i < records .count) ⌝ }
+    ensures { λ r. ⌜ r ≡ positionAt records (now (list .entry)) i ⌝ }
+{
+    position_from(list, i * records.width + records.position)
+}
+
+// The rounds of record i.
+pub fn rounds_at(list: &[u8], records: Listing, i: usize) -> u32
+    requires { ⌜ Fitting records (now list) × (i < records .count) ⌝ }
+    ensures { λ r. ⌜ r ≡ roundsAt records (now (list .entry)) i ⌝ }
+{
+    word_at(list, i * records.width + records.rounds)
+}
+
+// The number of eight bytes from a place on, high byte first.
+fn number_at(list: &[u8], at: usize) -> u64
+    requires { ⌜ at + positionWidth ≤ length (now list) ⌝ }
+    ensures { λ r. ⌜ r ≡ value 256 0 (take positionWidth (drop at (now (list .entry)))) ⌝ }
+{
+    (word_at(list, at) as u64) * 4294967296 + (word_at(list, at + layout::WORD) as u64)
+}
+
+// The number of a position's bytes.
+fn number(p: Position) -> u64
+    ensures { λ r. ⌜ r ≡ value 256 0 (bytes p) ⌝ }
+{
+    (high(p) as u64) * 4294967296 + (low(p) as u64)
+}
+
+// The first word of a position's bytes.
+fn high(p: Position) -> u32
+    ensures { λ r. ⌜ r ≡ wordAt (bytes p) 0 ⌝ }
+{
+    let a = p.partners;
+    joined(p.left, p.right, a[0], a[1])
+}
+
+// The second word of a position's bytes.
+fn low(p: Position) -> u32
+    ensures { λ r. ⌜ r ≡ wordAt (bytes p) 4 ⌝ }
+{
+    let a = p.partners;
+    joined(a[2], a[3], a[4], a[5])
+}
+
+// Writes a position's bytes from a place on.
+pub fn put_position(list: &mut [u8], at: usize, p: Position)
+    requires { ⌜ at + positionWidth ≤ length (now list) ⌝ }
+    ensures { λ _. ⌜ now (list .exit) ≡ sets (now (list .entry)) at (bytes p) ⌝ }
+{
+    put_word(list, at, high(p));
+    put_word(list, at + layout::WORD, low(p));
+}
+
+// The order of positions by their bytes.
+pub fn before(p: Position, q: Position) -> bool
+    ensures { λ r. ⌜ r ≡ before p q ⌝ }
+{
+    number(p) < number(q)
+}
+
+// The first record whose position's number is not below the sought one.
+fn lower_bound(list: &[u8], records: Listing, sought: u64) -> usize
+    requires { ⌜ Searchable records (now list) ⌝ }
+    ensures { λ r. ⌜ Bound records (now (list .entry)) sought r ⌝ }
+{
+    let mut low: usize = 0;
+    let mut high = records.count;
+    while low < high {
+        let middle = low + (high - low) / 2;
+        if number_at(list, middle * records.width + records.position) < sought {
+            low = middle + 1;
+        } else {
+            high = middle;
+        }
+    }
+    low
+}
+
+// Looks a position up.
+pub fn find(list: &[u8], records: Listing, p: Position) -> Place
+    requires { ⌜ Searchable records (now list) ⌝ }
+    ensures { λ r. ⌜ r ≡ placeOf p (positionsIn records (now (list .entry))) ⌝ }
+{
+    let sought = number(p);
+    let at = lower_bound(list, records, sought);
+    if records.count <= at {
+        return Place::Nowhere;
+    }
+    if number_at(list, at * records.width + records.position) != sought {
+        return Place::Nowhere;
+    }
+    Place::At(at)
+}

@@ -1,2 +1,0 @@
--- What the tables of an index hold.
-pub mod Index

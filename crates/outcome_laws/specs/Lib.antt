@@ -1,0 +1,2 @@
+-- The verdicts that a game decides between.
+pub mod Contests

@@ -1,2 +1,0 @@
--- Where a look-up finds a position.
-pub mod Places

@@ -1,3 +1,4 @@
 -- The definitions of 01, "The task file", and refusals 1 to 10 of "Turned back, in checking order".
 pub mod TaskFile
 pub mod Records
+pub mod TaskBytes

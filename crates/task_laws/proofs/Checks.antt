@@ -1,11 +1,11 @@
--- What is known of a record that its check lets pass. Assumes nothing.
+-- What is known of a record that its check lets pass, and that the check lets such a record pass. Assumes nothing.
 use Prim.Native.Nat.{ℕ, suc, _^_, _≤_, _<_}
 use mathlib.Core.Path.{_≡_, refl}
 use mathlib.Core.Bool.{Bool, true, false, not, cond}
 use mathlib.Core.List.{[], _∷_}
 use native.Mathlib.Omega.{arith}
 use lib.Dec.{ltb, leb, eqb}
-use borrow.Author.Tests.{ltb-true, ltb-false, leb-true, leb-false, eqb-true, not-false}
+use borrow.Author.Tests.{ltb-true, ltb-false, leb-true, leb-false, eqb-true, not-false, lt-ltb, le-ltb, le-leb, lt-leb, eq-eqb, ne-eqb}
 use Rattle.fra.specs.Lists.{any}
 use Rattle.fra.specs.Registers.{has}
 use Rattle.fra.specs.Model.{setOf, kindOf}
@@ -34,6 +34,16 @@ header-fits r s q e =
       start = leb-false s q (t .3);
     }
 
+pub header-passes : {r s q : ℕ} → HeaderFits r s q → headerRefusal r s q ≡ 0
+unfolding headerRefusal
+header-passes {r} {s} {q} f =
+    rw (
+      le-ltb maxRegisters r (f .registers),
+      ne-eqb s 0 (omega (arith, f .start)),
+      le-ltb maxStates s (f .states),
+      lt-leb s q (f .start),
+    )
+
 pub record StateFits (m : Model) (due n set mark : ℕ) : Type 0 where
   pub number-due : n ≡ due
   pub set-fits : set < 2 ^ m .registers
@@ -48,6 +58,11 @@ state-fits m due n set mark e =
       set-fits = leb-false (2 ^ m .registers) set (t .1);
       mark-fits = ltb-false 1 mark (t .2);
     }
+
+pub state-passes : {m : Model} {due n set mark : ℕ} → StateFits m due n set mark → stateRefusal m due n set mark ≡ 0
+unfolding stateRefusal
+state-passes {m} {due} {n} {set} {mark} f =
+    rw (eq-eqb n due (f .number-due), lt-leb (2 ^ m .registers) set (f .set-fits), le-ltb 1 mark (f .mark-fits))
 
 pub record EdgeExists (m : Model) (from tag kind i to : ℕ) : Type 0 where
   pub from-exists : from < m .«state_count»
@@ -95,6 +110,22 @@ edge-fits m from tag kind i to h =
       room = leb-false maxEdges (m .«edge_count») (passed d 8 0 (v .1) .0);
     }
 
+pub edge-passes : {m : Model} {from tag kind i to : ℕ} → EdgeFits m from tag kind i to
+    → edgeRefusal m (from ∷ tag ∷ kind ∷ i ∷ to ∷ []) ≡ 0
+unfolding edgeRefusal edgeExists
+edge-passes {m} {from} {tag} {kind} {i} {to} f =
+    rw (
+      lt-ltb from (m .«state_count») (f .exists .from-exists),
+      lt-ltb tag tagCount (f .exists .tag-exists),
+      le-leb kind 2 (f .exists .kind-exists),
+      le-leb 1 i (f .exists .register-least),
+      le-leb i (m .registers) (f .exists .register-exists),
+      lt-ltb to (m .«state_count») (f .exists .to-exists),
+      f .rule,
+      f .rises,
+      lt-leb maxEdges (m .«edge_count») (f .room),
+    )
+
 pub record PairFits (t : Task) (l r : ℕ) : Type 0 where
   pub left : has (setOf (t .left) (t .left .start)) l ≡ true
   pub right : has (setOf (t .right) (t .right .start)) r ≡ true
@@ -114,3 +145,7 @@ pair-fits t l r h =
       rises = not-false c (w .2);
       unused = w .3;
     }
+
+pub pair-passes : {t : Task} {l r : ℕ} → PairFits t l r → pairRefusal t l r ≡ 0
+unfolding pairRefusal
+pair-passes f = rw (f .left, f .right, f .rises, f .unused)

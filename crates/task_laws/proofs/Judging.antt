@@ -6,7 +6,7 @@ use mathlib.Core.Bool.{Bool, true, false, not, cond, _||_}
 use mathlib.Core.List.{List, [], _∷_}
 use native.Mathlib.Omega.{arith}
 use native.Mathlib.Decide.{ℕ-discrete, decLt}
-use lib.ListN.{length, getD, drop, length-drop, List·getD-eq-default}
+use lib.ListN.{length, getD, drop, List·getD-eq-default}
 use lib.Seq.{getD-drop}
 use lib.Dec.{ltb, leb, eqb}
 use Rattle.fra.specs.Lists.{any, below}
@@ -17,12 +17,13 @@ use Rattle.fra.specs.Position.{rightPartner}
 use Rattle.fra.specs.declared.Model.{Model}
 use Rattle.fra.specs.declared.Task.{Task}
 use Rattle.task.specs.TaskFile.{maxRegisters, maxStates, tagCount, maxEdges, headerRefusal, stateRefusal, edgeExists, keepsRule, rises, edgeRefusal, rising, pairRefusal}
-use borrow.Author.Tests.{ltb-true, ltb-false, lt-ltb, eq-eqb, leb-true, leb-false, eqb-true, eqb-false, not-true, not-false}
+use borrow.Author.Tests.{ltb-true, ltb-false, eq-eqb, leb-true, leb-false, eqb-true, eqb-false, not-true, not-false}
 use Rattle.task_laws.proofs.SeveralTests.{some-of-three, some-of-four, not-all-of-six}
 use Rattle.task_laws.proofs.RegisterBits.{has-below, has-above, inside-false}
 use Rattle.task_laws.proofs.Arrays.{any-at, any-index}
 use Rattle.task_laws.proofs.Checks.{HeaderFits, header-fits, StateFits, state-fits, EdgeExists, edge-exists, PairFits, pair-fits}
 use Rattle.task_laws.proofs.Models.{Whole, rule-kept}
+use Rattle.task_laws.proofs.RecordsRead.{rising-zeros}
 use Rattle.task_laws.proofs.Ties.{Written, Paired}
 use Rattle.fra_laws.proofs.Tests.{and-false, not-both, passes-or-fails}
 use Rattle.fra_laws.proofs.Registers.{has-positive}
@@ -172,7 +173,7 @@ module _ (l : List Record) (m : Model) (q n set mark : ℕ) (due : statesRead l 
 
 -- ── Edges ──
 
-register-faulty : (r from to kind i : ℕ) → keepsRule r from to (kindOf kind i) ≡ false → RegisterFault from to i kind
+pub register-faulty : (r from to kind i : ℕ) → keepsRule r from to (kindOf kind i) ≡ false → RegisterFault from to i kind
 unfolding keepsRule RegisterFault
 register-faulty r from to zero i h =
     ⊎-elim (λ (e : has from i ≡ false). inl e) (λ (e : inside r to (has from) ≡ false). inr (inside-false r to (has from) e))
@@ -180,7 +181,7 @@ register-faulty r from to zero i h =
 register-faulty r from to (suc zero) i h = inside-false r to (with from i) h
 register-faulty r from to (suc (suc kind)) i h = inside-false r to (with from i) h
 
-register-kept : (from to kind i : ℕ) → RegisterRule from to (kindOf kind i) → RegisterFault from to i kind → ⊥
+pub register-kept : (from to kind i : ℕ) → RegisterRule from to (kindOf kind i) → RegisterFault from to i kind → ⊥
 unfolding RegisterFault
 register-kept from to zero i rule (inl e) = not-both _ (rule .0) e
 register-kept from to zero i rule (inr w) = not-both _ (rule .1 (w .0) (w .1)) (w .2)
@@ -277,21 +278,13 @@ not-rising partners a h =
     )
 
 pub rising-above : (partners : List ℕ) (a i j : ℕ) → rising partners a ≡ true → rightPartner partners i ≡ j → 1 ≤ j → i < a
-unfolding rising
-rising-above partners a i j h e p = at (decLt i a)
+unfolding rightPartner
+rising-above partners a zero j h e p = absurd (omega arith)
+rising-above partners a (suc k) j h e p = at (decLt (suc k) a)
   where
-    at : Dec (i < a) → i < a
+    at : Dec (suc k < a) → suc k < a
     at (yes d) = d
-    at (no d) =
-        let w = partner-place partners i j e p in
-        let k = w .0 - (a - 1) in
-        let place : a - 1 + k ≡ w .0 = omega arith in
-        let within : k < length (drop (a - 1) partners) = rw length-drop (omega arith) in
-        let held : getD (drop (a - 1) partners) k 0 ≡ j = getD-drop (a - 1) partners k 0 ∙ rw place (w .3) in
-        absurd
-        (not-both _
-        (any-at (λ x. ltb 0 x) (drop (a - 1) partners) k 0 within (rw held (lt-ltb 0 j p)))
-        (not-true _ h))
+    at (no d) = absurd (omega (arith, rising-zeros partners a h k (omega arith)))
 
 -- the register set of a model's start state
 start-set : (l : List Record) (m : Model) → Written l m → setOf m (m .start) ≡ startSet l

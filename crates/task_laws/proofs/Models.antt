@@ -9,18 +9,20 @@ use lib.Dec.{eqb}
 use borrow.Author.Tests.{eqb-true, eqb-false, ne-eqb}
 use Rattle.fra.specs.Lists.{below}
 use Rattle.fra.specs.Registers.{has, inside, with}
-use Rattle.fra.specs.Model.{noState, noEdge, setOf, markOf, edgeOf, edgeBytes, kindOf}
+use Rattle.fra.specs.Model.{noState, noEdge, setOf, markOf, edgeOf, edgeBytes, kindNumber, kindOf}
 use Rattle.fra.specs.Valid.{RegisterRule, ValidState, ValidEdge, ValidModel}
 use Rattle.fra.specs.declared.EdgeKind.{EdgeKind}
 use Rattle.fra.specs.declared.EdgeKind.the-variants.{Known, LocallyFresh, GloballyFresh}
 use Rattle.fra.specs.declared.Edge.{Edge}
 use Rattle.fra.specs.declared.State.{State}
 use Rattle.fra.specs.declared.Model.{Model}
+use Rattle.task.specs.Records.{edge}
 use Rattle.task.specs.TaskFile.{maxRegisters, maxStates, tagCount, maxEdges, headed, withState, edgeOfBody, keepsRule, rises, withEdge}
+use Rattle.task.specs.TaskBytes.{edgeRecord, WritableModel}
 use Rattle.fra_laws.proofs.Tests.{and-left, and-right}
 use Rattle.fra_laws.proofs.KindNumbers.{register-of-kind}
 use Rattle.task_laws.proofs.RegisterBits.{has-below, inside-true}
-use Rattle.task_laws.proofs.Arrays.{getD-set}
+use Rattle.task_laws.proofs.Arrays.{getD-replicate-default, getD-set}
 use Rattle.task_laws.proofs.Checks.{HeaderFits, StateFits, EdgeFits}
 
 -- ── What is in a model ──
@@ -40,7 +42,7 @@ module _ (m : Model) (q registers mark : ℕ) (fits : q < length (m .states)) (k
   unfolding setOf
   setOf-withState = ap (λ (s : State). s .set) stored ∙ cond-map (λ (s : State). s .set) (eqb q k) _ _
 
-  markOf-withState : markOf (withState m q registers mark) k ≡ cond (eqb q k) mark (markOf m k)
+  pub markOf-withState : markOf (withState m q registers mark) k ≡ cond (eqb q k) mark (markOf m k)
   unfolding markOf
   markOf-withState = ap (λ (s : State). s .mark) stored ∙ cond-map (λ (s : State). s .mark) (eqb q k) _ _
 
@@ -50,14 +52,22 @@ pub edgeOf-withEdge : (m : Model) (e : Edge) → m .«edge_count» < length (m .
 unfolding edgeOf withEdge
 edgeOf-withEdge m e fits k = getD-set (m .edges) (m .«edge_count») k e noEdge fits
 
--- an edge has the bytes that it was read from
+number-of-kind : (kind i : ℕ) → kind ≤ 2 → kindNumber (kindOf kind i) ≡ kind
+number-of-kind zero i h = refl
+number-of-kind (suc zero) i h = refl
+number-of-kind (suc (suc zero)) i h = refl
+number-of-kind (suc (suc (suc kind))) i h = absurd (omega arith)
+
+-- an edge has the bytes and the record that it was read from
 pub edgeBytes-read : (from tag kind i to : ℕ) → kind ≤ 2
     → edgeBytes (edgeOfBody (from ∷ tag ∷ kind ∷ i ∷ to ∷ [])) ≡ from ∷ tag ∷ kind ∷ i ∷ to ∷ []
 unfolding edgeBytes edgeOfBody
-edgeBytes-read from tag zero i to h = refl
-edgeBytes-read from tag (suc zero) i to h = refl
-edgeBytes-read from tag (suc (suc zero)) i to h = refl
-edgeBytes-read from tag (suc (suc (suc kind))) i to h = absurd (omega arith)
+edgeBytes-read from tag kind i to h = rw (number-of-kind kind i h, register-of-kind kind i)
+
+pub edgeRecord-read : (k from tag kind i to : ℕ) → kind ≤ 2
+    → edgeRecord k (edgeOfBody (from ∷ tag ∷ kind ∷ i ∷ to ∷ [])) ≡ edge from tag kind i to
+unfolding edgeRecord edgeOfBody
+edgeRecord-read k from tag kind i to h = rw (number-of-kind kind i h, register-of-kind kind i)
 
 -- ── The order of edges ──
 
@@ -83,16 +93,16 @@ pub record Begun (n : ℕ) (m : Model) : Type 0 where
   pub state-array : length (m .states) ≡ maxStates
   pub edge-array : length (m .edges) ≡ maxEdges
   pub states : (q : ℕ) → q < n → ValidState m q
+  pub states-past : (q : ℕ) → n ≤ q → getD (m .states) q noState ≡ noState
+  pub edges-past : (k : ℕ) → edgeOf m k ≡ noEdge
 
 -- a model with all its states, and edges
 pub record Whole (m : Model) : Type 0 where
   pub valid : ValidModel maxRegisters m
-  pub tags : (k : ℕ) → k < m .«edge_count» → edgeOf m k .tag < tagCount
-  pub state-array : length (m .states) ≡ maxStates
-  pub edge-array : length (m .edges) ≡ maxEdges
+  pub writable : WritableModel m
 
 pub begun-headed : {r s q : ℕ} → HeaderFits r s q → Begun 0 (headed r s q)
-unfolding headed
+unfolding headed edgeOf
 begun-headed h =
     record {
       registers = h .registers;
@@ -102,11 +112,13 @@ begun-headed h =
       state-array = length-replicate maxStates noState;
       edge-array = length-replicate maxEdges noEdge;
       states = λ q b. absurd (omega arith);
+      states-past = λ q b. getD-replicate-default maxStates q noState;
+      edges-past = λ k. getD-replicate-default maxEdges k noEdge;
     }
 
 pub begun-withState : {m : Model} {q n registers mark : ℕ} → q < m .«state_count» → Begun q m → StateFits m q n registers mark
     → Begun (suc q) (withState m q registers mark)
-unfolding withState
+unfolding withState edgeOf
 begun-withState {m} {q} {n} {registers} {mark} due h f =
     record {
       registers = h .registers;
@@ -116,6 +128,10 @@ begun-withState {m} {q} {n} {registers} {mark} due h f =
       state-array = length-set (m .states) q (record { set = registers; mark = mark }) ∙ h .state-array;
       edge-array = h .edge-array;
       states = λ k b. at k b (eqb q k) refl;
+      states-past = λ k b.
+          let other = ne-eqb q k (omega arith) in
+          rw other at (stored m q registers mark fits k) ∙ h .states-past k (omega arith);
+      edges-past = h .edges-past;
     }
   where
     fits : q < length (m .states)
@@ -145,9 +161,13 @@ begun-whole h e =
         edges = λ k b. absurd (omega arith);
         rising = λ k b. absurd (omega arith);
       };
-      tags = λ k b. absurd (omega arith);
-      state-array = h .state-array;
-      edge-array = h .edge-array;
+      writable = record {
+        tags = λ k b. absurd (omega arith);
+        state-array = h .state-array;
+        edge-array = h .edge-array;
+        states-past = λ q b. h .states-past q (omega arith);
+        edges-past = λ k b. h .edges-past k;
+      };
     }
 
 pub rule-kept : (r from to : ℕ) (kind : EdgeKind) → ((i : ℕ) → has to i ≡ true → i ≤ r) → keepsRule r from to kind ≡ true
@@ -222,18 +242,26 @@ pub whole-withEdge : {m : Model} {from tag kind i to : ℕ} → Whole m → Edge
 unfolding withEdge edgeOfBody
 whole-withEdge {m} {from} {tag} {kind} {i} {to} h f =
     record {
-      tags = λ k b. tag-at k b (eqb (m .«edge_count») k) refl;
-      valid = valid-withEdge (edgeOfBody (from ∷ tag ∷ kind ∷ i ∷ to ∷ [])) (h .valid) (edge-valid h f) (edge-above f) (omega (arith, f .room));
-      state-array = h .state-array;
-      edge-array = length-set (m .edges) (m .«edge_count») _ ∙ h .edge-array;
+      valid = valid-withEdge e (h .valid) (edge-valid h f) (edge-above f) room;
+      writable = record {
+        tags = λ k b. tag-at k b (eqb (m .«edge_count») k) refl;
+        state-array = h .writable .state-array;
+        edge-array = length-set (m .edges) (m .«edge_count») _ ∙ h .writable .edge-array;
+        states-past = h .writable .states-past;
+        edges-past = λ k b.
+            rw (edgeOf-withEdge m e room k, ne-eqb (m .«edge_count») k (omega arith)) (h .writable .edges-past k (omega arith));
+      };
     }
   where
     e : Edge
     e = edgeOfBody (from ∷ tag ∷ kind ∷ i ∷ to ∷ [])
 
+    room : m .«edge_count» < length (m .edges)
+    room = omega (arith, f .room, h .writable .edge-array)
+
     tag-at : (k : ℕ) → k < m .«edge_count» + 1 → (t : Bool) → eqb (m .«edge_count») k ≡ t → edgeOf (withEdge m e) k .tag < tagCount
-    tag-at k b t d = rw (edgeOf-withEdge m e (omega (arith, f .room)) k, d) (at t d)
+    tag-at k b t d = rw (edgeOf-withEdge m e room k, d) (at t d)
       where
         at : (t : Bool) → eqb (m .«edge_count») k ≡ t → cond t e (edgeOf m k) .tag < tagCount
         at true d = f .exists .tag-exists
-        at false d = h .tags k (omega (arith, eqb-false (m .«edge_count») k d))
+        at false d = h .writable .tags k (omega (arith, eqb-false (m .«edge_count») k d))

@@ -1,15 +1,16 @@
--- A task that is read is valid: each record that is not refused keeps what is read so far sound. Assumes nothing.
+-- A task that is read is one that a file can hold, and the file is its bytes: each record that is not refused keeps what is
+-- read so far sound, and is added to its records. Assumes nothing.
 use Prim.Native.Nat.{ℕ, zero, suc, _+_, _-_, _≤_, _<_}
 use mathlib.Core.Path.{_≡_, refl, sym, _∙_, ap, subst}
 use mathlib.Core.Logic.{_⊎_, inl, inr}
 use mathlib.Core.Bool.{Bool, true, false, not, cond, _&&_, _||_}
-use mathlib.Core.List.{List, [], _∷_}
+use mathlib.Core.List.{List, [], _∷_, _++_, flatMap, append-nil, append-assoc}
 use native.Mathlib.Numerals.{add-one}
 use native.Mathlib.Omega.{arith}
 use lib.ListN.{length, set, replicate, length-set, length-replicate}
 use lib.Dec.{eqb}
 use borrow.Author.Tests.{eqb-true, eqb-false, ne-eqb, lt-ltb, not-true}
-use Rattle.fra.specs.Lists.{any}
+use Rattle.fra.specs.Lists.{any, count}
 use Rattle.fra.specs.Registers.{has}
 use Rattle.fra.specs.Model.{setOf, edgeOf}
 use Rattle.fra.specs.Rules.{modelOf}
@@ -20,18 +21,22 @@ use Rattle.fra.specs.declared.Position.{Position}
 use Rattle.fra.specs.declared.Task.{Task}
 use Rattle.fra.specs.declared.Side.{Side}
 use Rattle.fra.specs.declared.Side.the-variants.{Left, Right}
-use Rattle.task.specs.Records.{Record, header, state, edge, pair, end}
+use Rattle.task.specs.Records.{Record, header, state, edge, pair, end, encode}
 use Rattle.task.specs.TaskFile
-use Rattle.task.specs.TaskFile.{maxRegisters, maxStates, tagCount, maxEdges, withModel, headed, withHeader, withState, withEdge, withPair, afterState, headerAt, stateAt, edgeAt, pairAt, endAt, headerRefusal, stateRefusal, edgeRefusal, pairRefusal, atStart, readTask}
+use Rattle.task.specs.TaskFile.{maxRegisters, maxStates, tagCount, maxEdges, withModel, headed, withHeader, withState, edgeOfBody, withEdge, withPair, afterState, headerAt, stateAt, edgeAt, pairAt, endAt, headerRefusal, stateRefusal, edgeRefusal, pairRefusal, atStart, readTask}
+use Rattle.task.specs.TaskBytes.{edgeRecord, modelRecords, pairRecords, encodeTask, Writable}
 use Rattle.task.specs.declared.Stage.{Stage}
 use Rattle.task.specs.declared.Stage.the-variants.{Start, States, Edges, Pairs, Ended}
 use Rattle.task.specs.declared.Progress.{Progress}
 use Rattle.task.specs.declared.Answer.the-variants.{Read}
 use Rattle.fra_laws.proofs.Tests.{and-left, and-right, and-intro, or-cases, or-left, or-right, or-false-left, or-false-right, or-false-intro}
 use Rattle.fra_laws.proofs.Registers.{has-positive}
+use Rattle.fra_laws.proofs.StringsInARow.{flatMap-append}
+use Rattle.task_laws.proofs.Arrays.{getD-replicate-default}
 use Rattle.task_laws.proofs.RunsAndHalts.{stepAt, decided-passes, Run, begin, onward, read-halt}
 use Rattle.task_laws.proofs.Checks.{header-fits, state-fits, edge-fits, PairFits, pair-fits}
-use Rattle.task_laws.proofs.Models.{Begun, Whole, begun-headed, begun-withState, begun-whole, whole-withEdge}
+use Rattle.task_laws.proofs.Models.{edgeRecord-read, Begun, Whole, begun-headed, begun-withState, begun-whole, whole-withEdge}
+use Rattle.task_laws.proofs.RecordsRead.{begunRecords, begun-more, begun-all, edges-more, pairs-none, pairs-more, rising-zeros, recordsBefore, unendedRecords, recordsAt, ended-records, records-more}
 
 -- ── The matching of the start ──
 
@@ -87,17 +92,35 @@ pub record Finished (t : Task) : Type 0 where
   pub partner-array : length (t .start .partners) ≡ maxRegisters
   pub matched : matching (setOf (t .left) (t .left .start)) (setOf (t .right) (t .right .start)) 1 (t .start .partners) ≡ true
 
-finished-valid : {t : Task} → Finished t → Valid maxRegisters t
+finished-writable : {t : Task} → Finished t → Writable t
 unfolding legal
-finished-valid {t} h =
+finished-writable {t} h =
     record {
-      left = h .left .valid;
-      right = h .right .valid;
-      start-left = h .start-left;
-      start-right = h .start-right;
-      start-legal =
-          rw (h .start-left, h .start-right, lt-ltb (t .left .start) (t .left .«state_count») (h .left .valid .start), lt-ltb (t .right .start) (t .right .«state_count») (h .right .valid .start), h .partner-array) (h .matched);
+      valid = record {
+        left = h .left .valid;
+        right = h .right .valid;
+        start-left = h .start-left;
+        start-right = h .start-right;
+        start-legal =
+            rw (h .start-left, h .start-right, lt-ltb (t .left .start) (t .left .«state_count») (h .left .valid .start), lt-ltb (t .right .start) (t .right .«state_count») (h .right .valid .start), h .partner-array) (h .matched);
+      };
+      left = h .left .writable;
+      right = h .right .writable;
     }
+
+-- the registers of a pair that is read have their places
+pub pair-places : {t : Task} {a b : ℕ} → Finished t → PairFits t a b
+    → (1 ≤ a) × (a ≤ length (t .start .partners)) × (1 ≤ b)
+pair-places {t} {a} {b} h f = (
+  has-positive (setOf (t .left) (t .left .start)) a (f .left),
+  omega (
+    arith,
+    h .left .valid .states (t .left .start) (h .left .valid .start) .existing a (f .left),
+    h .left .valid .registers,
+    h .partner-array,
+  ),
+  has-positive (setOf (t .right) (t .right .start)) b (f .right),
+)
 
 finished-withPair : {t : Task} {l r : ℕ} → Finished t → PairFits t l r → Finished (withPair t l r)
 unfolding withPair
@@ -160,6 +183,16 @@ unpaired-finished {t} h =
           (matching-empty (setOf (t .left) (t .left .start)) (setOf (t .right) (t .right .start)) 1 maxRegisters);
     }
 
+-- a progress is sound, and these are the records of what is read
+record Reading (l : List Record) (p : Progress) : Type 0 where
+  sound : Sound p
+  exact : recordsAt (p .stage) (p .task) ≡ l
+
+-- without a pair no record follows the right model's
+unpaired-records : {t : Task} → InEdges Right t → recordsAt Pairs t ≡ recordsAt (Edges Right) t
+unpaired-records {t} h =
+    rw (pairs-none 1 (t .start .partners) (λ k. rw (h .beside .start) (getD-replicate-default {A = ℕ} maxRegisters k 0)), append-nil)
+
 -- ── Each record that is not refused keeps it ──
 
 -- the model that is being read is exchanged for one with the same start
@@ -177,25 +210,31 @@ Before Left t = Unit {0}
 Before Right t = Whole (t .left)
 
 header-sound : (s : Side) (p : Progress) (r n q : ℕ) → Before s (p .task) → headerAt s p (r ∷ n ∷ q ∷ []) .refusal ≡ 0
-    → Sound (headerAt s p (r ∷ n ∷ q ∷ []) .progress)
-unfolding headerAt headed withHeader
+    → Reading (recordsBefore s (p .task) ++ header r n q ∷ []) (headerAt s p (r ∷ n ∷ q ∷ []) .progress)
+unfolding headerAt headed withHeader count
 header-sound Left p r n q h e =
-    decided-passes Sound (headerRefusal r n q) p _ e
-    (λ z. let f = header-fits r n q z in record { due = omega arith; model = begun-headed f; beside = tt })
-header-sound Right p r n q h e =
-    decided-passes Sound (headerRefusal r n q) p _ e
+    decided-passes (Reading _) (headerRefusal r n q) p _ e
     (λ z.
     let f = header-fits r n q z in
-    record { due = omega arith; model = begun-headed f; beside = record { left = h; start = refl } })
+    record { sound = record { due = omega arith; model = begun-headed f; beside = tt }; exact = refl })
+header-sound Right p r n q h e =
+    decided-passes (Reading _) (headerRefusal r n q) p _ e
+    (λ z.
+    let f = header-fits r n q z in
+    record {
+      sound = record { due = omega arith; model = begun-headed f; beside = record { left = h; start = refl } };
+      exact = refl;
+    })
 
 state-sound : (s : Side) (q : ℕ) (p : Progress) (n set mark : ℕ) → SoundAt (States s q) (p .task)
     → stateAt s q p (n ∷ set ∷ mark ∷ []) .refusal ≡ 0
-    → Sound (stateAt s q p (n ∷ set ∷ mark ∷ []) .progress)
+    → Reading (recordsAt (States s q) (p .task) ++ state n set mark ∷ []) (stateAt s q p (n ∷ set ∷ mark ∷ []) .progress)
 unfolding stateAt afterState withState
 state-sound s q p n set mark h e =
-    decided-passes Sound (stateRefusal (modelOf (p .task) s) q n set mark) p _ e
-    (λ z. after (eqb (q + 1) (modelOf (p .task) s .«state_count»)) refl
-    (begun-withState (h .due) (h .model) (state-fits (modelOf (p .task) s) q n set mark z)))
+    decided-passes (Reading _) (stateRefusal (modelOf (p .task) s) q n set mark) p _ e
+    (λ z.
+    let f = state-fits (modelOf (p .task) s) q n set mark z in
+    after (eqb (q + 1) (modelOf (p .task) s .«state_count»)) refl (f .number-due) (begun-withState (h .due) (h .model) f))
   where
     m : Model
     m = withState (modelOf (p .task) s) q set mark
@@ -203,38 +242,73 @@ state-sound s q p n set mark h e =
     beside : Beside s (withModel (p .task) s m)
     beside = beside-kept s (p .task) m refl (h .beside)
 
-    after : (t : Bool) → eqb (q + 1) (m .«state_count») ≡ t → Begun (suc q) m
-        → SoundAt (cond t (Edges s) (States s (q + 1))) (withModel (p .task) s m)
-    after true d b =
+    more : n ≡ q → begunRecords (q + 1) m ≡ begunRecords q (modelOf (p .task) s) ++ state n set mark ∷ []
+    more due = rw due (begun-more (modelOf (p .task) s) q set mark (omega (arith, h .due, h .model)))
+
+    after : (t : Bool) → eqb (q + 1) (m .«state_count») ≡ t → n ≡ q → Begun (suc q) m
+        → Reading (recordsAt (States s q) (p .task) ++ state n set mark ∷ [])
+        (record { stage = cond t (Edges s) (States s (q + 1)); task = withModel (p .task) s m })
+    after true d due b =
         let last = eqb-true (q + 1) (m .«state_count») d in
-        record { model = rw modelOf-withModel (begun-whole b (omega arith)); beside = beside }
-    after false d b =
         record {
-          due = rw modelOf-withModel (omega (arith, h .due, eqb-false (q + 1) (m .«state_count») d));
-          model = rw (modelOf-withModel, add-one) b;
-          beside = beside;
+          sound = record { model = rw modelOf-withModel (begun-whole b (omega arith)); beside = beside };
+          exact =
+              records-more s (p .task) m (modelRecords edgeRecord) _ _
+              (begun-all m (h .model .no-edges) ∙ ap (λ (k : ℕ). begunRecords k m) (sym last) ∙ more due);
+        }
+    after false d due b =
+        record {
+          sound = record {
+            due = rw modelOf-withModel (omega (arith, h .due, eqb-false (q + 1) (m .«state_count») d));
+            model = rw (modelOf-withModel, add-one) b;
+            beside = beside;
+          };
+          exact = records-more s (p .task) m (begunRecords (q + 1)) _ _ (more due);
         }
 
 edge-sound : (s : Side) (p : Progress) (from tag kind i to : ℕ) → SoundAt (Edges s) (p .task)
     → edgeAt s p (from ∷ tag ∷ kind ∷ i ∷ to ∷ []) .refusal ≡ 0
-    → Sound (edgeAt s p (from ∷ tag ∷ kind ∷ i ∷ to ∷ []) .progress)
+    → Reading (recordsAt (Edges s) (p .task) ++ edge from tag kind i to ∷ [])
+    (edgeAt s p (from ∷ tag ∷ kind ∷ i ∷ to ∷ []) .progress)
 unfolding edgeAt withEdge
 edge-sound s p from tag kind i to h e =
-    decided-passes Sound (edgeRefusal (modelOf (p .task) s) (from ∷ tag ∷ kind ∷ i ∷ to ∷ [])) p _ e
+    decided-passes (Reading _) (edgeRefusal (modelOf (p .task) s) (from ∷ tag ∷ kind ∷ i ∷ to ∷ [])) p _ e
     (λ z.
+    let f = edge-fits (modelOf (p .task) s) from tag kind i to z in
     record {
-      model = rw modelOf-withModel (whole-withEdge (h .model) (edge-fits (modelOf (p .task) s) from tag kind i to z));
-      beside = beside-kept s (p .task) (withEdge (modelOf (p .task) s) _) refl (h .beside);
+      sound = record {
+        model = rw modelOf-withModel (whole-withEdge (h .model) f);
+        beside = beside-kept s (p .task) (withEdge (modelOf (p .task) s) _) refl (h .beside);
+      };
+      exact =
+          records-more s (p .task) (withEdge m (edgeOfBody (from ∷ tag ∷ kind ∷ i ∷ to ∷ []))) (modelRecords edgeRecord) _ _
+          (rw (← edgeRecord-read (m .«edge_count») from tag kind i to (f .exists .kind-exists))
+          (edges-more m (edgeOfBody (from ∷ tag ∷ kind ∷ i ∷ to ∷ [])) (omega (arith, f .room, h .model .writable))));
     })
+  where
+    m : Model
+    m = modelOf (p .task) s
 
 pair-sound : (p : Progress) (a b : ℕ) → Finished (p .task) → pairAt p (a ∷ b ∷ []) .refusal ≡ 0
-    → Sound (pairAt p (a ∷ b ∷ []) .progress)
-unfolding pairAt
+    → Reading (unendedRecords (p .task) ++ pair a b ∷ []) (pairAt p (a ∷ b ∷ []) .progress)
+unfolding pairAt withPair
 pair-sound p a b h e =
-    decided-passes Sound (pairRefusal (p .task) a b) p _ e (λ z. finished-withPair h (pair-fits (p .task) a b z))
+    decided-passes (Reading _) (pairRefusal (p .task) a b) p _ e
+    (λ z.
+    let f = pair-fits (p .task) a b z in
+    let w = pair-places h f in
+    record {
+      sound = finished-withPair h f;
+      exact =
+          rw (pairs-more 1 partners (a - 1) a b (omega arith) (w .2) (omega arith) (rising-zeros partners a (f .rises)))
+          (sym (append-assoc (recordsAt (Edges Right) (p .task)) (pairRecords 1 partners) (pair a b ∷ [])));
+    })
+  where
+    partners : List ℕ
+    partners = p .task .start .partners
 
 sound-step : (x : Record) (stage : Stage) (p : Progress) → SoundAt stage (p .task) → stepAt x stage p .refusal ≡ 0
-    → Sound (stepAt x stage p .progress)
+    → Reading (recordsAt stage (p .task) ++ x ∷ []) (stepAt x stage p .progress)
 unfolding TaskFile.header TaskFile.state TaskFile.edge TaskFile.pair TaskFile.end endAt
 sound-step (header r n q) Start p h e = header-sound Left p r n q tt e
 sound-step (header r n q) (States s k) p h e = absurd (omega arith)
@@ -255,50 +329,60 @@ sound-step (edge from tag kind i to) Ended p h e = absurd (omega arith)
 sound-step (pair a b) Start p h e = absurd (omega arith)
 sound-step (pair a b) (States s q) p h e = absurd (omega arith)
 sound-step (pair a b) (Edges Left) p h e = absurd (omega arith)
-sound-step (pair a b) (Edges Right) p h e = pair-sound p a b (unpaired-finished h) e
+sound-step (pair a b) (Edges Right) p h e = rw (unpaired-records h) at (pair-sound p a b (unpaired-finished h) e)
 sound-step (pair a b) Pairs p h e = pair-sound p a b h e
 sound-step (pair a b) Ended p h e = absurd (omega arith)
 sound-step end Start p h e = absurd (omega arith)
 sound-step end (States s q) p h e = absurd (omega arith)
 sound-step end (Edges Left) p h e = absurd (omega arith)
-sound-step end (Edges Right) p h e = unpaired-finished h
-sound-step end Pairs p h e = h
+sound-step end (Edges Right) p h e =
+    record { sound = unpaired-finished h; exact = rw (unpaired-records h) at (ended-records (p .task)) }
+sound-step end Pairs p h e = record { sound = h; exact = ended-records (p .task) }
 sound-step end Ended p h e = absurd (omega arith)
 
 pub sound-run : {file rest : List ℕ} {p : Progress} → Run file p rest → Sound p
 unfolding atStart
 sound-run begin = tt
-sound-run (onward {p = p} x run e) = sound-step x (p .stage) p (sound-run run) e
+sound-run (onward {p = p} x run e) = sound-step x (p .stage) p (sound-run run) e .sound
 
--- ── A task that is read is valid ──
+-- the bytes that are read are those of the records of what is read
+exact-run : {file rest : List ℕ} {p : Progress} → Run file p rest
+    → file ≡ flatMap encode (recordsAt (p .stage) (p .task)) ++ rest
+unfolding atStart flatMap
+exact-run begin = refl
+exact-run {rest = rest} (onward {p = p} x run e) =
+    exact-run run
+    ∙ rw (sound-step x (p .stage) p (sound-run run) e .exact, flatMap-append encode, append-nil, append-assoc)
 
-read-finished : (file : List ℕ) → readTask file .answer ≡ Read → Finished (readTask file .task)
-read-finished file e =
+-- ── A task that is read is one that a file can hold, and the file is its bytes ──
+
+pub read-writable : (file : List ℕ) → readTask file .answer ≡ Read → Writable (readTask file .task)
+read-writable file e =
     let w = read-halt file e in
-    rw (w .3) (subst (λ (stage : Stage). SoundAt stage (w .0 .task)) (w .2) (sound-run (w .1)))
+    rw (w .3) (finished-writable (subst (λ (stage : Stage). SoundAt stage (w .0 .task)) (w .2) (sound-run (w .1))))
+
+pub read-bytes : (file : List ℕ) → readTask file .answer ≡ Read → file ≡ encodeTask (readTask file .task)
+unfolding encodeTask
+read-bytes file e =
+    let w = read-halt file e in
+    exact-run (w .1) ∙ rw (w .2, w .3, append-nil)
 
 pub read-valid : (file : List ℕ) → readTask file .answer ≡ Read → Valid maxRegisters (readTask file .task)
-read-valid file e = finished-valid (read-finished file e)
+read-valid file e = read-writable file e .valid
 
 -- Its counts keep to 01's limits: with them an edge's number is a byte, and the count of positions fits four bytes.
 pub read-limits : (file : List ℕ) → readTask file .answer ≡ Read → (s : Side)
     → (modelOf (readTask file .task) s .«state_count» ≤ maxStates) × (modelOf (readTask file .task) s .«edge_count» ≤ maxEdges)
-read-limits file e s = at s (read-finished file e)
+read-limits file e s = at s (read-writable file e)
   where
-    limits : {m : Model} → Whole m → (m .«state_count» ≤ maxStates) × (m .«edge_count» ≤ maxEdges)
-    limits w = (omega (arith, w .valid .state-places), omega (arith, w .valid .edge-places))
-
-    at : (s : Side) {t : Task} → Finished t
+    at : (s : Side) {t : Task} → Writable t
         → (modelOf t s .«state_count» ≤ maxStates) × (modelOf t s .«edge_count» ≤ maxEdges)
-    at Left h = limits (h .left)
-    at Right h = limits (h .right)
+    at Left w = omega (arith, w .valid .left, w .left)
+    at Right w = omega (arith, w .valid .right, w .right)
 
 -- Its tags are 01's: "a tag 0 to 31".
 pub read-tags : (file : List ℕ) → readTask file .answer ≡ Read → (s : Side) (k : ℕ)
     → k < modelOf (readTask file .task) s .«edge_count»
     → edgeOf (modelOf (readTask file .task) s) k .tag < tagCount
-read-tags file e s = at s (read-finished file e)
-  where
-    at : (s : Side) {t : Task} → Finished t → (k : ℕ) → k < modelOf t s .«edge_count» → edgeOf (modelOf t s) k .tag < tagCount
-    at Left h = h .left .tags
-    at Right h = h .right .tags
+read-tags file e Left = read-writable file e .left .tags
+read-tags file e Right = read-writable file e .right .tags

@@ -11,7 +11,6 @@ use lib.Dec.{eqb}
 use borrow.Author.Tests.{eqb-true, eqb-false}
 use Rattle.fra.specs.Lists.{_∈_}
 use Rattle.fra.specs.Rules.{modelOf}
-use Rattle.fra.specs.Model.{setOf}
 use Rattle.fra.specs.declared.Model.{Model}
 use Rattle.fra.specs.declared.Task.{Task}
 use Rattle.fra.specs.declared.Side.{Side}
@@ -23,10 +22,9 @@ use Rattle.task.specs.declared.Stage.{Stage}
 use Rattle.task.specs.declared.Stage.the-variants.{Start, States, Edges, Pairs, Ended}
 use Rattle.task.specs.declared.Progress.{Progress}
 use Rattle.task.specs.declared.Stepped.{Stepped}
-use Rattle.fra_laws.proofs.Registers.{has-positive}
 use Rattle.task_laws.proofs.RunsAndHalts.{stepAt, decided, decided-refusal, decided-passes}
 use Rattle.task_laws.proofs.Checks.{header-fits, state-fits, edge-fits, PairFits, pair-fits}
-use Rattle.task_laws.proofs.ReadValid.{SoundAt, Finished, unpaired-finished, modelOf-withModel}
+use Rattle.task_laws.proofs.ReadValid.{Finished, pair-places, SoundAt, unpaired-finished, modelOf-withModel}
 use Rattle.task_laws.proofs.Ties.{Written, Paired, written-headed, written-withState, written-withEdge, paired-none, paired-other, paired-set, headersOf, TiedAt, Tied, no-pair-more, no-end-more, shape, Beside, Says}
 use Rattle.task_laws.proofs.Judging.{Judged, misplaced, header-judged, state-judged, edge-judged, rising-above, pair-judged, end-judged}
 
@@ -167,7 +165,7 @@ edge-correct s p l from tag kind i to h t =
           record {
             model =
                 rw modelOf-withModel
-                (written-withEdge l from tag kind i to (omega (arith, f .room, h .model .edge-array)) (f .exists .kind-exists)
+                (written-withEdge l from tag kind i to (omega (arith, f .room, h .model .writable .edge-array)) (f .exists .kind-exists)
                 (t .says .model));
             beside = beside-more s l (p .task) _ (edge from tag kind i to) refl (λ e. omega arith) (t .says .beside);
           };
@@ -203,10 +201,8 @@ pair-correct p l a b h allowed t =
 
     paired : PairFits (p .task) a b → Paired (pair a b ∷ l) (set partners (a - 1) b)
     paired f =
-        let exists = h .left .valid .states (p .task .left .start) (h .left .valid .start) .existing a (f .left) in
-        paired-set a b (has-positive (setOf (p .task .left) (p .task .left .start)) a (f .left))
-        (omega (arith, h .left .valid .registers, h .partner-array))
-        (has-positive (setOf (p .task .right) (p .task .right .start)) b (f .right))
+        let w = pair-places h f in
+        paired-set a b (w .0) (w .1) (w .2)
         (λ i j m. let old = t .beside .paired .joined i j m in rising-above partners a i j (f .rises) (old .1) (old .0))
         (t .beside .paired)
 

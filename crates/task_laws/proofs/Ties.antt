@@ -5,7 +5,7 @@ use mathlib.Core.Logic.{_⊎_, inl, inr, ⊎-elim}
 use mathlib.Core.Bool.{Bool, true, false, cond}
 use mathlib.Core.List.{List, [], _∷_, List·Memᴰ·head, List·Memᴰ·tail, List·Memᴰ·cases-cons}
 use native.Mathlib.Omega.{arith}
-use lib.ListN.{length, getD, set, replicate}
+use lib.ListN.{length, set, replicate}
 use lib.Dec.{eqb, eqb·suc-zero, eqb·suc-suc}
 use borrow.Author.Tests.{eqb-true, eq-eqb, ne-eqb}
 use Rattle.fra.specs.Lists.{_∈_, below}
@@ -22,7 +22,7 @@ use Rattle.task.specs.TaskFile.{maxStates, headed, withState, edgeOfBody, rises
 use Rattle.task.specs.declared.Stage.{Stage}
 use Rattle.task.specs.declared.Stage.the-variants.{Start, States, Edges, Pairs, Ended}
 use Rattle.task.specs.declared.Progress.{Progress}
-use Rattle.task_laws.proofs.Arrays.{getD-set}
+use Rattle.task_laws.proofs.Arrays.{getD-replicate-default, getD-set}
 use Rattle.task_laws.proofs.Models.{setOf-withState, edgeOf-withEdge, edgeBytes-read, rises-first, rises-after}
 
 -- ── Models ──
@@ -39,11 +39,6 @@ pub record Contents (r n q e : ℕ) (sets : ℕ → ℕ) (last : List ℕ) (m : 
 -- a model has what the records since the latest header give it
 abbrev pub Written : List Record → Model → Type 0
 Written l m = Contents (registers l) (states l) (start l) (edgesRead l) (setIn l) (lastEdge l) m
-
-getD-replicate-default : {A : Type 0} (n k : ℕ) (a : A) → getD (replicate n a) k a ≡ a
-getD-replicate-default zero k a = refl
-getD-replicate-default (suc n) zero a = refl
-getD-replicate-default (suc n) (suc k) a = getD-replicate-default n k a
 
 pub written-headed : (l : List Record) (r n q : ℕ) → Written (header r n q ∷ l) (headed r n q)
 unfolding headed registers states start edgesRead lastEdge setIn setOf below

@@ -13,7 +13,7 @@ use lib.Dec.{ltb, eqb}
 use borrow.Author.Tests.{lt-ltb, le-ltb, eq-eqb, ne-eqb, eqb-true, eqb-false}
 use Rattle.fra.specs.Lists.{_∈_, any, least}
 use Rattle.fra.specs.Rules.{Rules}
-use Rattle.fra.specs.Game.{attacks, replies, after, lostAtOnce, lostWithin}
+use Rattle.fra.specs.Game.{attacks, replies, after, lostAtOnce, lostWithin, HasRank}
 use Rattle.fra.specs.Reach.{successors, rank}
 use Rattle.fra.specs.declared.Position.{Position}
 use Rattle.fra.specs.declared.Task.{Task}
@@ -22,7 +22,7 @@ use Rattle.fra_laws.proofs.Tests.{not-both, fails-unless}
 use Rattle.fra_laws.proofs.Lists.{any-witness, any-none, all-at, all-intro, first-found, first-none}
 use Rattle.fra_laws.proofs.Lost.{lost-step, not-lost-within-fewer, lost-within-more}
 use Rattle.fra_laws.proofs.Reached.{successors-intro}
-use Rattle.fra_laws.proofs.Ranks.{HasRank, Closed, Settled, rank-some, rank-none, rank-exactly, rank-reply, rank-never, settled-never-lost, rank-at-most-length}
+use Rattle.fra_laws.proofs.Ranks.{Closed, Settled, rank-some, rank-none, rank-exactly, rank-reply, rank-never, settled-never-lost, rank-at-most-length}
 use Rattle.outcome.specs.Bytes.{allOnes}
 use Rattle.outcome.specs.Certificate.{roundsOrNever, wins, chosen}
 use Rattle.game_replies.specs.Winner.{winsBy, winner, isFound}

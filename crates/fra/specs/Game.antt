@@ -1,5 +1,5 @@
 -- 01, "Positions and rounds": the symbolic game, for any register count.
-use Prim.Native.Nat.{ℕ, zero, suc}
+use Prim.Native.Nat.{ℕ, zero, suc, _<_}
 use mathlib.Core.Path.{_≡_}
 use mathlib.Core.Bool.{Bool, true, false, cond, _&&_, _||_}
 use mathlib.Core.List.{List, [], _∷_, _++_, map, flatMap}
@@ -137,6 +137,15 @@ unfoldable pub lostWithin : Rules → Task → ℕ → Position → Bool
 lostWithin g t zero p = lostAtOnce g t p
 lostWithin g t (suc n) p =
     lostWithin g t n p || any (λ a. all (λ k. lostWithin g t n (after t p a k)) (replies t p a)) (attacks g t p)
+
+-- "never lost": no count of rounds is enough
+abbrev pub NeverLost : Rules → Task → Position → Type 0
+NeverLost g t p = (n : ℕ) → lostWithin g t n p ≡ false
+
+-- the rounds of a lost position, its rank: it is lost within k rounds and not within fewer
+pub record HasRank (g : Rules) (t : Task) (p : Position) (k : ℕ) : Type 0 where
+  pub lost : lostWithin g t k p ≡ true
+  pub not-before : (j : ℕ) → j < k → lostWithin g t j p ≡ false
 
 -- ── Symbolic bisimulation ──
 

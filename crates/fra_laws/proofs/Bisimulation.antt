@@ -10,12 +10,12 @@ use borrow.Author.Tests.{not-true}
 use Rattle.fra.specs.Lists.{_∈_, keep}
 use Rattle.fra.specs.Rules.{Rules}
 use Rattle.fra.specs.Position.{legal}
-use Rattle.fra.specs.Game.{lostWithin, Bisimulation}
+use Rattle.fra.specs.Game.{lostWithin, NeverLost, Bisimulation}
 use Rattle.fra.specs.declared.Position.{Position}
 use Rattle.fra.specs.declared.Task.{Task}
 use Rattle.fra_laws.proofs.Tests.{not-both}
 use Rattle.fra_laws.proofs.Lists.{keep-intro, keep-elim}
-use Rattle.fra_laws.proofs.Lost.{NeverLost, lost-at-once, not-lost-step, answered-never-lost}
+use Rattle.fra_laws.proofs.Lost.{lost-at-once, not-lost-step, answered-never-lost}
 use Rattle.fra_laws.proofs.Ranks.{Closed, never-lost-by-length}
 
 -- the members that are not lost within as many rounds as there are members

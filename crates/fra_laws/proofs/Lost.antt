@@ -7,7 +7,7 @@ use mathlib.Core.Bool.{Bool, true, false}
 use native.Mathlib.Decide.{le-ind}
 use Rattle.fra.specs.Lists.{_∈_, any, all}
 use Rattle.fra.specs.Rules.{Rules}
-use Rattle.fra.specs.Game.{attacks, replies, after, lostAtOnce, lostWithin}
+use Rattle.fra.specs.Game.{attacks, replies, after, lostAtOnce, lostWithin, NeverLost}
 use Rattle.fra.specs.declared.Position.{Position}
 use Rattle.fra.specs.declared.Task.{Task}
 use Rattle.fra.specs.declared.Attack.{Attack}
@@ -23,10 +23,6 @@ Winnable g t n p =
 abbrev pub Answerable : Rules → Task → ℕ → Position → Type 0
 Answerable g t n p =
     (a : Attack) → a ∈ attacks g t p → (k : ℕ) × (k ∈ replies t p a) × (lostWithin g t n (after t p a k) ≡ false)
-
--- no count of rounds is enough
-abbrev pub NeverLost : Rules → Task → Position → Type 0
-NeverLost g t p = (n : ℕ) → lostWithin g t n p ≡ false
 
 module _ (g : Rules) (t : Task) where
   -- the attack has every reply leading to a position lost within n rounds: the definition's test

@@ -12,7 +12,7 @@ use lib.ListN.{length}
 use borrow.Author.Tests.{not-true}
 use Rattle.fra.specs.Lists.{_∈_, keep}
 use Rattle.fra.specs.Rules.{Rules}
-use Rattle.fra.specs.Game.{attacks, replies, after, lostAtOnce, lostWithin}
+use Rattle.fra.specs.Game.{attacks, replies, after, lostAtOnce, lostWithin, NeverLost, HasRank}
 use Rattle.fra.specs.Reach.{rank}
 use Rattle.fra.specs.declared.Position.{Position}
 use Rattle.fra.specs.declared.Task.{Task}
@@ -20,12 +20,7 @@ use Rattle.fra.specs.declared.Attack.{Attack}
 use Rattle.fra_laws.proofs.Tests.{not-both, passes-unless}
 use Rattle.fra_laws.proofs.Lists.{keep-intro, keep-elim, least-found, least-none}
 use Rattle.fra_laws.proofs.Lengths.{keep-shortens}
-use Rattle.fra_laws.proofs.Lost.{Winnable, Answerable, NeverLost, lost-at-once, lost-step, not-lost-step, lost-within-more, not-lost-within-fewer, answered-never-lost}
-
--- the position is lost within k rounds and not within fewer
-pub record HasRank (g : Rules) (t : Task) (p : Position) (k : ℕ) : Type 0 where
-  pub lost : lostWithin g t k p ≡ true
-  pub not-before : (j : ℕ) → j < k → lostWithin g t j p ≡ false
+use Rattle.fra_laws.proofs.Lost.{Winnable, Answerable, lost-at-once, lost-step, not-lost-step, lost-within-more, not-lost-within-fewer, answered-never-lost}
 
 -- what attacks and replies lead to from a member is a member
 abbrev pub Closed : Rules → Task → List Position → Type 0

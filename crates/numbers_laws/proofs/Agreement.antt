@@ -6,7 +6,7 @@ use mathlib.Core.Bool.{true}
 use native.Mathlib.Omega.{arith}
 use Rattle.fra.specs.Lists.{_∈_}
 use Rattle.fra.specs.Rules.{Rules}
-use Rattle.fra.specs.Game.{replies, after, lostAtOnce, lostWithin}
+use Rattle.fra.specs.Game.{replies, after, lostAtOnce, lostWithin, NeverLost, HasRank}
 use Rattle.fra.specs.Valid.{Valid}
 use Rattle.fra.specs.declared.Position.{Position}
 use Rattle.fra.specs.declared.Task.{Task}
@@ -14,8 +14,8 @@ use Rattle.fra.specs.declared.Attack.{Attack}
 use Rattle.fra.specs.declared.Side.the-variants.{Left, Right}
 use Rattle.fra.specs.declared.IdCase.{IdCase}
 use Rattle.fra_laws.proofs.Tests.{fails-unless, not-both}
-use Rattle.fra_laws.proofs.Lost.{Winnable, NeverLost, lost-at-once, lost-step}
-use Rattle.fra_laws.proofs.Ranks.{HasRank, rank-least}
+use Rattle.fra_laws.proofs.Lost.{Winnable, lost-at-once, lost-step}
+use Rattle.fra_laws.proofs.Ranks.{rank-least}
 use Rattle.numbers.specs.Numbers.{Setting, Choice, Reply, afterReply, Forced, Opening, Enough, LeastEnough}
 use Rattle.numbers_laws.proofs.Over.{Over}
 use Rattle.numbers_laws.proofs.Choices.{attackOf, Chosen, attack-of-choice, choice-of-attack}

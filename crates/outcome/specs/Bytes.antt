@@ -1,7 +1,16 @@
 -- Numbers and buffers as bytes.
-use Prim.Native.Nat.{ℕ, _+_, _*_, _/_, _%_, _^_}
-use mathlib.Core.List.{List, [], _∷_, _++_}
+use Prim.Native.Nat.{ℕ, _+_, _*_, _/_, _%_, _^_, _<_}
+use mathlib.Core.List.{List, [], _∷_, _++_, map}
 use lib.ListN.{length, drop, getD, replicate}
+
+-- what a lent buffer holds: bytes
+pub record Byte : Type 0 where
+  pub value : ℕ
+  pub small : value < 256
+
+-- the numbers that bytes are
+unfoldable pub values : List Byte → List ℕ
+values l = map (λ b. b .value) l
 
 -- "four bytes, high byte first"
 unfoldable pub word : ℕ → List ℕ

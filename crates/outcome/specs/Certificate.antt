@@ -67,6 +67,9 @@ pub record Loss : Type 0 where
   pub case : ℕ
   pub rounds : ℕ
 
+abbrev pub placeOf : Loss → Position
+placeOf x = x .position
+
 unfoldable pub lossRecord : ℕ → Loss → List ℕ
 lossRecord kind l = kind ∷ bytes (l .position) ++ (l .side ∷ l .edge ∷ l .case ∷ word (l .rounds))
 

@@ -1,9 +1,9 @@
 -- 01, "Turned back, in checking order", 11 to 14: for each refusal the case that 01 names for it. Nothing here goes by way of
 -- an outcome.
-use Prim.Native.Nat.{ℕ, _<_, _^_}
+use Prim.Native.Nat.{ℕ, _<_}
 use mathlib.Core.Path.{_≡_}
 use mathlib.Core.Logic.{_≢_}
-use mathlib.Core.Bool.{true, false}
+use mathlib.Core.Bool.{false}
 use mathlib.Core.List.{List, [], _∷_, _++_, flatMap}
 use lib.ListN.{length}
 use Rattle.fra.specs.Lists.{_∈_, Unique}
@@ -13,10 +13,11 @@ use Rattle.fra.specs.Reach.{Reached, rounds}
 use Rattle.fra.specs.declared.Position.{Position}
 use Rattle.fra.specs.declared.Task.{Task}
 use Rattle.outcome.specs.Verdicts.{Contest, kindOf}
-use Rattle.outcome.specs.Certificate.{Loss, keptRecord, lossRecord, certificateBy}
+use Rattle.outcome.specs.Certificate.{certificateBy}
 use Rattle.outcome.specs.Compare.{capacity}
-use Rattle.outcome.specs.Conditions.{KeptCondition, LostCondition}
+use Rattle.outcome.specs.Conditions.{Accepts}
 use Rattle.outcome.specs.Check.{positionOf, keptLength, lossLength}
+use Rattle.outcome.specs.declared.Verdict.{Verdict}
 
 -- 11: "The positions reached outnumber the table's entries."
 pub record TableTooSmall (g : Rules) (t : Task) (table : List ℕ) : Type 0 where
@@ -67,17 +68,6 @@ pub data Malformed (r : ℕ) (c : Contest) (t : Task) (certificate : List ℕ) :
 
 -- ── 14: "The proposed certificate is well formed and not accepted." ──
 
--- the bytes of a list that meets the published conditions
-pub data Acceptable (r : ℕ) (c : Contest) (t : Task) (certificate : List ℕ) : Type 0 where
-  as-kept : (l : List Position) → certificate ≡ flatMap (keptRecord (kindOf (c .kept))) l
-      → KeptCondition (c .rules) r t l
-      → Acceptable r c t certificate
-  as-lost : (l : List Loss) → certificate ≡ flatMap (lossRecord (kindOf (c .lost))) l
-      → ((x : Loss) → x ∈ l → legal r t (x .position) ≡ true)
-      → ((x : Loss) → x ∈ l → x .rounds < 2 ^ 32)
-      → LostCondition (c .rules) t l
-      → Acceptable r c t certificate
-
 pub record NotAccepted (r : ℕ) (c : Contest) (t : Task) (certificate : List ℕ) : Type 0 where
   pub well-formed : Malformed r c t certificate → ⊥
-  pub unmet : Acceptable r c t certificate → ⊥
+  pub unmet : (v : Verdict) (n : ℕ) → Accepts r c t certificate v n → ⊥

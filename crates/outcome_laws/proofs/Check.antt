@@ -3,7 +3,7 @@
 use Prim.Native.Nat.{ℕ, _<_, _^_}
 use mathlib.Core.Path.{_≡_, refl, sym, _∙_, ap, ap₂}
 use mathlib.Core.Logic.{_⊎_, inl, inr, _≢_, _↔_}
-use mathlib.Core.Bool.{Bool, true, false}
+use mathlib.Core.Bool.{true, false}
 use mathlib.Core.List.{List, [], _∷_, _++_, map, flatMap, map-map, List·Memᴰ·head, List·Memᴰ·not-nil, List·Memᴰ·tail, List·Memᴰ·cases-cons, Memᴰ·map, Memᴰ·of-map}
 use native.Mathlib.Omega.{arith}
 use lib.ListN.{length}
@@ -15,10 +15,10 @@ use Rattle.fra_laws.proofs.Tests.{clash, not-both, fails-unless}
 use Rattle.fra_laws.proofs.Lists.{flatMap-intro}
 use Rattle.fra_laws.proofs.Order.{before-irreflexive}
 use Rattle.outcome.specs.Verdicts.{Contest, kindOf}
-use Rattle.outcome.specs.Certificate.{Loss, keptRecord, lossRecord}
-use Rattle.outcome.specs.Conditions.{KeptCondition, LostCondition}
+use Rattle.outcome.specs.Certificate.{Loss, placeOf, keptRecord, lossRecord}
+use Rattle.outcome.specs.Conditions.{Accepts, accepts-kept, accepts-lost}
 use Rattle.outcome.specs.Check.{checkTask, judgeList, orderly, positionOf, keptAccepted, lossFrom, lossesAccepted, startRounds, same}
-use Rattle.outcome.specs.Refusals.{Kind, of-kept, of-lost, records}
+use Rattle.outcome.specs.Refusals.{Kind, of-kept, of-lost, records, Malformed, NotAccepted}
 use Rattle.outcome.specs.declared.Verdict.{Verdict}
 use Rattle.outcome.specs.declared.Check.the-variants.{Accepted, Refused}
 use Rattle.outcome_laws.proofs.PassedTests.{tests}
@@ -26,27 +26,7 @@ use Rattle.outcome_laws.proofs.Bodies.{Whole}
 use Rattle.outcome_laws.proofs.Orderly.{orderly-passes}
 use Rattle.outcome_laws.proofs.Accepted.{same-passes, kept-accepted, losses-accepted}
 use Rattle.outcome_laws.proofs.Encoding.{Bytes, lossBody, position-length, loss-length, position-decoded, position-encoded, loss-decoded, loss-encoded, decoded-rounds}
-use Rattle.outcome.specs.Refusals.{Malformed, Acceptable, as-kept, as-lost, NotAccepted}
 use Rattle.outcome_laws.proofs.Malformed.{accepts, verdict, rounds, judged, check-whole, Answer, malformed, rejected, accepted, answer, check-refused-13}
-
--- the position of a loss
-abbrev pub placeOf : Loss → Position
-placeOf x = x .position
-
--- "The checker accepts": the bytes of a rising list of legal positions that meets the conditions on its kind, the verdict of
--- that kind, and "the start's listed rounds, 0 for kind 16"
-pub data Accepts (r : ℕ) (c : Contest) (t : Task) (certificate : List ℕ) : Verdict → ℕ → Type 0 where
-  accepts-kept : (l : List Position) → certificate ≡ flatMap (keptRecord (kindOf (c .kept))) l
-      → Rising l
-      → KeptCondition (c .rules) r t l
-      → Accepts r c t certificate (c .kept) 0
-  accepts-lost : (l : List Loss) → certificate ≡ flatMap (lossRecord (kindOf (c .lost))) l
-      → ((x : Loss) → x ∈ l → legal r t (x .position) ≡ true)
-      → ((x : Loss) → x ∈ l → x .rounds < 2 ^ 32)
-      → Rising (map placeOf l)
-      → LostCondition (c .rules) t l
-      → (x : Loss) → x ∈ l → x .position ≡ t .start
-      → Accepts r c t certificate (c .lost) (x .rounds)
 
 -- ── Lists that are encoded and decoded ──
 
@@ -102,12 +82,6 @@ start-rounds t (y ∷ l) (above, rest) x m e = step (List·Memᴰ·cases-cons m)
 partners-count : (r : ℕ) (t : Task) (p : Position) → legal r t p ≡ true → length (p .partners) ≡ r
 unfolding legal
 partners-count r t p h = let (((left, right), count), matching) = simp tests at h in count
-
--- an accepted list is refused with 13 or not at all
-not-14 : (o : Bool) (v : Verdict) (n : ℕ) → judgeList o true (Accepted v n) ≡ Refused 14 → ⊥
-unfolding judgeList
-not-14 true v n h = clash (cc)
-not-14 false v n h = let z : _≡_ {A = ℕ} 13 14 = cc in omega arith
 
 module _ (r : ℕ) (c : Contest) (t : Task) (differ : kindOf (c .kept) ≢ kindOf (c .lost)) where
   -- ── The answer to the bytes of a list ──
@@ -177,22 +151,6 @@ module _ (r : ℕ) (c : Contest) (t : Task) (differ : kindOf (c .kept) ≢ kindO
       m
       e)
 
-  -- ── What is acceptable ──
-
-  acceptable : {l : List ℕ} {v : Verdict} {n : ℕ} → Accepts r c t l v n → Acceptable r c t l
-  acceptable (accepts-kept l e rises condition) = as-kept l e condition
-  acceptable (accepts-lost l e are-legal are-words rises condition x m d) = as-lost l e are-legal are-words condition
-
-  -- a list that meets the conditions is accepted or malformed
-  acceptable-not-14 : {l : List ℕ} → Acceptable r c t l → checkTask r c t l ≡ Refused 14 → ⊥
-  acceptable-not-14 (as-kept l e condition) h =
-      let are-legal = condition .bisimulation .are-legal in
-      not-14 (orderly r t l) (c .kept) 0
-      (sym (rw (kept-accepted (c .rules) t r l are-legal .1 condition) at (kept-answer l are-legal)) ∙ (rw e at h))
-  acceptable-not-14 (as-lost l e are-legal are-words condition) h =
-      not-14 (orderly r t (map placeOf l)) (c .lost) (startRounds t l)
-      (sym (rw (losses-accepted (c .rules) t l .1 condition) at (lost-answer l are-legal are-words)) ∙ (rw e at h))
-
   -- ── What the checker answers: acceptance, refusal 14, and besides these only refusal 13 ──
 
   -- whoever wrote the list
@@ -233,7 +191,7 @@ module _ (r : ℕ) (c : Contest) (t : Task) (differ : kindOf (c .kept) ≢ kindO
           let f = check-refused-13 r c t differ l .1 m in
           let z : _≡_ {A = ℕ} 13 14 = cc in
           omega arith;
-      unmet = λ a. acceptable-not-14 a e;
+      unmet = λ v n a. let f = check-accepts a in clash (cc);
     },
     from (answer r c t differ l),
   )
@@ -241,7 +199,7 @@ module _ (r : ℕ) (c : Contest) (t : Task) (differ : kindOf (c .kept) ≢ kindO
       from : Answer r c t differ l → NotAccepted r c t l → checkTask r c t l ≡ Refused 14
       from (malformed m e) n = absurd (n .well-formed m)
       from (rejected b a e) n = e
-      from (accepted b a e) n = absurd (n .unmet (acceptable (check-accepted l h _ _ .0 e)))
+      from (accepted b a e) n = absurd (n .unmet _ _ (check-accepted l h _ _ .0 e))
 
   pub check-answers : (l : List ℕ)
       → (checkTask r c t l ≡ Refused 13)

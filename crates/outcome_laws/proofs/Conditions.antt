@@ -8,10 +8,10 @@ use mathlib.Core.List.{List}
 use native.Mathlib.Omega.{arith}
 use Rattle.fra.specs.Lists.{_∈_}
 use Rattle.fra.specs.Rules.{Rules}
-use Rattle.fra.specs.Game.{lostWithin}
+use Rattle.fra.specs.Game.{lostWithin, NeverLost}
 use Rattle.fra.specs.declared.Position.{Position}
 use Rattle.fra.specs.declared.Task.{Task}
-use Rattle.fra_laws.proofs.Lost.{NeverLost, lost-at-once, lost-step, lost-within-more}
+use Rattle.fra_laws.proofs.Lost.{lost-at-once, lost-step, lost-within-more}
 use Rattle.fra_laws.proofs.Bisimulation.{bisimulation-never-lost}
 use Rattle.outcome.specs.Certificate.{Loss}
 use Rattle.outcome.specs.Conditions.{KeptCondition, LostCondition}

@@ -2,14 +2,14 @@
 -- Assumes nothing.
 use Prim.Native.Nat.{ℕ, zero, suc, _+_, _^_, _≤_, _<_}
 use mathlib.Core.Path.{_≡_, refl, _∙_}
-use mathlib.Core.List.{List, [], _∷_, _++_, append-nil, List·Memᴰ·head, List·Memᴰ·tail}
+use mathlib.Core.List.{List, [], _∷_, _++_, append-nil, List·Memᴰ·head, List·Memᴰ·tail, Memᴰ·of-map}
 use native.Mathlib.Omega.{arith}
 use lib.ListN.{length, getD, take, drop, length-append, take-append-drop, drop-of-length-le}
 use lib.Seq.{take-at, take-all, drop-cons, getD-append-add}
 use Rattle.fra.specs.Lists.{_∈_}
 use Rattle.fra.specs.Position.{bytes}
 use Rattle.fra.specs.declared.Position.{Position}
-use Rattle.outcome.specs.Bytes.{word, wordAt}
+use Rattle.outcome.specs.Bytes.{Byte, values, word, wordAt}
 use Rattle.outcome.specs.Certificate.{Loss}
 use Rattle.outcome.specs.Check.{positionOf, lossFrom, keptLength, lossLength}
 use Rattle.outcome_laws.proofs.WordBytes.{word-value, word-bound, word-bytes}
@@ -17,6 +17,10 @@ use Rattle.outcome_laws.proofs.WordBytes.{word-value, word-bound, word-
 -- numbers that are bytes
 abbrev pub Bytes : List ℕ → Type 0
 Bytes l = (b : ℕ) → b ∈ l → b < 256
+
+pub values-bytes : (l : List Byte) → Bytes (values l)
+unfolding values
+values-bytes l b m = let (c, n, e) = Memᴰ·of-map (λ (c : Byte). c .value) l m in rw (← e) (c .small)
 
 byte-at : (l : List ℕ) → Bytes l → (i : ℕ) → getD l i 0 < 256
 byte-at [] h i = omega arith

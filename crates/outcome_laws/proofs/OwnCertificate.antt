@@ -18,11 +18,12 @@ use Rattle.fra_laws.proofs.Reached.{reached-rising, reached-legal}
 use Rattle.fra_laws.proofs.Ranks.{rank-exactly}
 use Rattle.fra_laws.proofs.Order.{keep-rising}
 use Rattle.outcome.specs.Verdicts.{Contest, kindOf}
-use Rattle.outcome.specs.Certificate.{Loss, isNever, roundsOrNever, keptPositions, lossOf, losses, certificateBy}
+use Rattle.outcome.specs.Certificate.{Loss, placeOf, isNever, roundsOrNever, keptPositions, lossOf, losses, certificateBy}
+use Rattle.outcome.specs.Conditions.{accepts-kept, accepts-lost}
 use Rattle.outcome.specs.Check.{checkTask}
 use Rattle.outcome.specs.declared.Check.the-variants.{Accepted}
 use Rattle.outcome_laws.proofs.WrittenLists.{rounds-never, listed, listed-computes, listed-lost, loss-position, loss-rounds, kept-condition, lost-condition}
-use Rattle.outcome_laws.proofs.Check.{placeOf, accepts-kept, accepts-lost, check-accepts}
+use Rattle.outcome_laws.proofs.Check.{check-accepts}
 
 -- a function that leaves each element as it is leaves the list
 map-same : {A : Type 0} (f : A → A) (l : List A) → ((a : A) → f a ≡ a) → map f l ≡ l

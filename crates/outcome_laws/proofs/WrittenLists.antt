@@ -11,7 +11,7 @@ use lib.ListN.{length}
 use Rattle.fra.specs.Lists.{_∈_}
 use Rattle.fra.specs.Rules.{Rules}
 use Rattle.fra.specs.Position.{legal}
-use Rattle.fra.specs.Game.{attacks, replies, after, lostWithin, Bisimulation}
+use Rattle.fra.specs.Game.{attacks, replies, after, lostWithin, NeverLost, HasRank, Bisimulation}
 use Rattle.fra.specs.Reach.{begin, closed, enough, reached, rank, rounds}
 use Rattle.fra.specs.Valid.{Valid}
 use Rattle.fra.specs.declared.Position.{Position}
@@ -22,8 +22,8 @@ use Rattle.fra_laws.proofs.Lists.{any-intro, all-at, all-intro, keep-intro, kee
 use Rattle.fra_laws.proofs.Closure.{Computes, closure-keeps}
 use Rattle.fra_laws.proofs.Legal.{after-legal}
 use Rattle.fra_laws.proofs.Reached.{enough-computes, reached-start, reached-after, reached-legal}
-use Rattle.fra_laws.proofs.Lost.{NeverLost, lost-at-once}
-use Rattle.fra_laws.proofs.Ranks.{HasRank, Closed, rank-least, rank-exactly, rank-rounds, rank-never}
+use Rattle.fra_laws.proofs.Lost.{lost-at-once}
+use Rattle.fra_laws.proofs.Ranks.{Closed, rank-least, rank-exactly, rank-rounds, rank-never}
 use Rattle.fra_laws.proofs.Bisimulation.{keptMembers, kept-never-lost, kept-bisimulation}
 use Rattle.outcome.specs.Certificate.{Loss, isNever, roundsOrNever, keptPositions, wins, chosen, attackOf, attackLeads, lossStep, lossWith, lossOf, losses}
 use Rattle.outcome.specs.Conditions.{KeptCondition, LostAlready, LostByAttack, LostCondition}

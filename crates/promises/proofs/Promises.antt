@@ -8,17 +8,18 @@ use mathlib.Core.List.{List}
 use native.Mathlib.Omega.{arith}
 use lib.ListN.{take}
 use Rattle.fra.specs.Rules.{bisimulation}
-use Rattle.fra.specs.Game.{lostWithin, Bisimulation}
+use Rattle.fra.specs.Game.{lostWithin, NeverLost, HasRank, Bisimulation}
 use Rattle.fra.specs.Lists.{_∈_}
 use Rattle.fra.specs.Reach.{reached}
 use Rattle.fra.specs.declared.Position.{Position}
-use Rattle.task.specs.TaskFile.{readTask, maxRegisters}
+use Rattle.task.specs.TaskFile.{readTask, taskOf, maxRegisters}
 use Rattle.task.specs.Records.{TurnedBack}
 use Rattle.task.specs.declared.Answer.{Answer}
 use Rattle.task.specs.declared.Answer.the-variants.{Read, Refused as Unread}
 use Rattle.outcome.specs.Bytes.{cleared}
 use Rattle.outcome.specs.Verdicts.{equality, kindOf}
 use Rattle.outcome.specs.Compare.{Outcome, compare}
+use Rattle.outcome.specs.Conditions.{Accepts, accepts-kept, accepts-lost}
 use Rattle.outcome.specs.Check.{checkTask, check}
 use Rattle.outcome.specs.Refusals.{TableTooSmall, CertificateTooLong, Malformed, NotAccepted}
 use Rattle.outcome.specs.declared.Verdict.{Verdict}
@@ -28,8 +29,6 @@ use Rattle.outcome.specs.declared.Comparison.the-variants.{Decided, Refused}
 use Rattle.outcome.specs.declared.Check.the-variants.{Accepted, Refused as Rejected}
 use Rattle.numbers.specs.Numbers.{Setting, Opening, Enough, LeastEnough}
 use Rattle.fra_laws.proofs.Tests.{clash, not-both}
-use Rattle.fra_laws.proofs.Lost.{NeverLost}
-use Rattle.fra_laws.proofs.Ranks.{HasRank}
 use Rattle.fra_laws.proofs.Reached.{reached-start, reached-legal}
 use Rattle.fra_laws.proofs.Bisimulation.{keptMembers, never-lost-in-bisimulation, lost-in-no-bisimulation}
 use Rattle.task_laws.proofs.ReadValid.{read-valid}
@@ -37,7 +36,7 @@ use Rattle.task_laws.proofs.FileRefusals.{refused-exactly as unread-exactly}
 use Rattle.outcome_laws.proofs.WrittenLists.{reached-closed}
 use Rattle.outcome_laws.proofs.Compare.{Says, refused-exactly, late-outcome}
 use Rattle.outcome_laws.proofs.Encoding.{Bytes}
-use Rattle.outcome_laws.proofs.Check.{Accepts, accepts-kept, accepts-lost, check-accepted, check-refused}
+use Rattle.outcome_laws.proofs.Check.{check-accepted, check-refused}
 use Rattle.outcome_laws.proofs.Conditions.{kept-start-never-lost, listed-start-lost}
 use Rattle.outcome_laws.proofs.OwnCertificate.{own-kept, own-lost}
 use Rattle.numbers_laws.proofs.Agreement.{opening-exists, enough-iff-lost, least-enough-iff-first-lost, never-enough-iff-never-lost}
@@ -49,7 +48,7 @@ use Rattle.exports.proofs.nuldopa_compare.Statement.{statement as compare-for-c
 use Rattle.exports.proofs.nuldopa_compare.Met.{met as compare-for-c-met}
 use Rattle.exports.proofs.nuldopa_check.Statement.{statement as check-for-c-statement}
 use Rattle.exports.proofs.nuldopa_check.Met.{met as check-for-c-met}
-use Rattle.promises.proofs.Support.{taskOf, compared-read, compared-unread, decided-read, verdict-start, same-rank, written-part, checked-read, checked-unread, count-most, count-fits}
+use Rattle.promises.proofs.Support.{compared-read, compared-unread, decided-read, verdict-start, same-rank, written-part, checked-read, checked-unread, count-most, count-fits}
 
 -- ── The functions that the definitions below speak of ──
 

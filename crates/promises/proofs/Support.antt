@@ -7,13 +7,14 @@ use native.Mathlib.Omega.{arith}
 use lib.ListN.{length, take, drop}
 use lib.Seq.{take-at}
 use Rattle.fra.specs.Rules.{Rules}
+use Rattle.fra.specs.Game.{NeverLost, HasRank}
 use Rattle.fra.specs.Reach.{reached, rounds}
 use Rattle.fra.specs.Valid.{Valid}
 use Rattle.fra.specs.declared.Side.the-variants.{Left, Right}
 use Rattle.fra.specs.declared.Position.{Position}
 use Rattle.fra.specs.declared.Task.{Task}
 use Rattle.fra_laws.proofs.Tests.{clash}
-use Rattle.task.specs.TaskFile.{readTask, maxRegisters}
+use Rattle.task.specs.TaskFile.{readTask, taskOf, maxRegisters}
 use Rattle.task.specs.declared.Answer.{Answer}
 use Rattle.task.specs.declared.Answer.the-variants.{Read, Refused as Unread}
 use Rattle.outcome.specs.Verdicts.{Contest}
@@ -26,15 +27,10 @@ use Rattle.outcome.specs.declared.Check.the-variants.{Refused as Rejected}
 use Rattle.outcome.specs.declared.Comparison.the-variants.{Decided, Refused}
 use Rattle.fra_laws.proofs.LegalPositions.{most-positions}
 use Rattle.fra_laws.proofs.Reached.{reached-unique, reached-legal}
-use Rattle.fra_laws.proofs.Lost.{NeverLost}
-use Rattle.fra_laws.proofs.Ranks.{HasRank, rank-least}
+use Rattle.fra_laws.proofs.Ranks.{rank-least}
 use Rattle.task_laws.proofs.ReadValid.{read-valid, read-limits}
 use Rattle.outcome_laws.proofs.WrittenLists.{rounds-never, rounds-least}
 use Rattle.outcome_laws.proofs.Compare.{Says, verdict-says}
-
--- the task that a file holds
-abbrev pub taskOf : List ℕ → Task
-taskOf file = readTask file .task
 
 -- ── From bytes to the task ──
 

@@ -21,6 +21,7 @@ use Rattle.task.specs.declared.Stage.{Stage}
 use Rattle.task.specs.declared.Stage.the-variants.{Start, States, Edges, Pairs, Ended}
 use Rattle.task.specs.declared.Progress.{Progress}
 use Rattle.task.specs.declared.Stepped.{Stepped}
+use Rattle.task.specs.declared.Answer.{Answer}
 use Rattle.task.specs.declared.Answer.the-variants.{Read, Refused}
 use Rattle.task.specs.declared.TaskRead.{TaskRead}
 
@@ -336,3 +337,12 @@ readRest (suc n) p (b ∷ l) =
 -- record."
 unfoldable pub readTask : List ℕ → TaskRead
 readTask l = readRest (suc (length l)) atStart l
+
+-- the task that a file holds
+abbrev pub taskOf : List ℕ → Task
+taskOf file = readTask file .task
+
+-- the number of a reader's answer: the refusal's, or 0 where the file is read
+abbrev pub refusalOf : Answer → ℕ
+refusalOf Read = 0
+refusalOf (Refused n) = n

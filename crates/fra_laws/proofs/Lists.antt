@@ -10,7 +10,7 @@ use native.Mathlib.Decide.{ℕ-discrete}
 use lib.Dec.{eqb}
 use borrow.Author.Tests.{eqb-true, eq-eqb}
 use Rattle.fra.specs.Lists.{_∈_, any, all, keep, first, count, least}
-use Rattle.fra_laws.proofs.Tests.{clash, and-left, and-right, and-intro, and-false, or-cases, or-left, or-right, not-both}
+use Rattle.fra_laws.proofs.Tests.{clash, and-left, and-right, and-intro, and-false, or-cases, or-left, or-right, or-false-left, or-false-right, not-both}
 
 module _ {A : Type 0} where
   -- ── any, all ──
@@ -101,20 +101,46 @@ module _ {A : Type 0} where
 
   -- ── first ──
 
-  pub first-found : (f : A → Bool) (l : List A) (x : A) → first f l ≡ some x → (x ∈ l) × (f x ≡ true)
+  pub first-passes : (f : A → Bool) (x : A) (xs : List A) → f x ≡ true → first f (x ∷ xs) ≡ some x
   unfolding first
-  first-found f [] x h = clash (cc)
-  first-found f (y ∷ ys) x h = step (f y) refl (first-found f ys x)
+  first-passes f x xs e = rw (e, first)
+
+  pub first-fails : (f : A → Bool) (x : A) (xs : List A) → f x ≡ false → first f (x ∷ xs) ≡ first f xs
+  unfolding first
+  first-fails f x xs e = rw (e, first)
+
+  -- what is found passes, and nothing before it does
+  pub first-split : (f : A → Bool) (l : List A) (x : A) → first f l ≡ some x
+      → (earlier : List A) × (later : List A) × (l ≡ earlier ++ x ∷ later) × (f x ≡ true) × (any f earlier ≡ false)
+  unfolding first any
+  first-split f [] x h = clash (cc)
+  first-split f (y ∷ ys) x h = step (f y) refl (first-split f ys x)
     where
-      step : (b : Bool) → f y ≡ b → (first f ys ≡ some x → (x ∈ ys) × (f x ≡ true)) → (x ∈ y ∷ ys) × (f x ≡ true)
+      step : (b : Bool) → f y ≡ b
+          → (first f ys ≡ some x
+          → (earlier : List A) × (later : List A) × (ys ≡ earlier ++ x ∷ later) × (f x ≡ true) × (any f earlier ≡ false))
+          → (earlier : List A) × (later : List A) × (y ∷ ys ≡ earlier ++ x ∷ later) × (f x ≡ true) × (any f earlier ≡ false)
       step true e rest =
-          let d : first f (y ∷ ys) ≡ some y = rw (e, first) in
-          let s : x ≡ y = cc in
-          (List·Memᴰ·head s, ap f s ∙ e)
+          let d = first-passes f y ys e in
+          let s : y ≡ x = cc in
+          ([], ys, ap (λ (z : A). z ∷ ys) s, ap f (sym s) ∙ e, refl)
       step false e rest =
-          let d : first f (y ∷ ys) ≡ first f ys = rw (e, first) in
-          let r = rest (sym d ∙ h) in
-          (List·Memᴰ·tail (r .0), r .1)
+          let (earlier, later, place, passes, fails) = rest (sym (first-fails f y ys e) ∙ h) in
+          (y ∷ earlier, later, ap (λ (l : List A). y ∷ l) place, passes, rw e fails)
+
+  pub first-found : (f : A → Bool) (l : List A) (x : A) → first f l ≡ some x → (x ∈ l) × (f x ≡ true)
+  first-found f l x h =
+      let (earlier, later, place, passes, fails) = first-split f l x h in
+      (rw place (Memᴰ·append-right earlier (List·Memᴰ·head refl)), passes)
+
+  -- the first that passes is found
+  pub first-at : (f : A → Bool) (earlier : List A) (x : A) (later : List A) → f x ≡ true → any f earlier ≡ false
+      → first f (earlier ++ x ∷ later) ≡ some x
+  unfolding any
+  first-at f [] x later e h = first-passes f x later e
+  first-at f (y ∷ ys) x later e h =
+      first-fails f y (ys ++ x ∷ later) (or-false-left (f y) (any f ys) h)
+      ∙ first-at f ys x later e (or-false-right (f y) (any f ys) h)
 
   -- where nothing is found, no element passes
   pub first-none : (f : A → Bool) (l : List A) → first f l ≡ none → any f l ≡ false
@@ -130,13 +156,13 @@ module _ {A : Type 0} where
           let d : first f (y ∷ ys) ≡ first f ys = rw (e, first) in
           rw e (rest (sym d ∙ h))
 
-  -- something is found where an element passes
-  pub first-exists : (f : A → Bool) (l : List A) → any f l ≡ true → (x : A) × (first f l ≡ some x)
-  first-exists f l h = step (first f l) refl
+  -- nothing is found where no element passes
+  pub first-missing : (f : A → Bool) (l : List A) → any f l ≡ false → first f l ≡ none
+  first-missing f l h = step (first f l) refl
     where
-      step : (o : Option A) → first f l ≡ o → (x : A) × (first f l ≡ some x)
-      step none e = absurd (not-both (any f l) h (first-none f l e))
-      step (some x) e = (x, e)
+      step : (o : Option A) → first f l ≡ o → first f l ≡ none
+      step none e = e
+      step (some x) e = let (m, p) = first-found f l x e in absurd (any-none f h m p)
 
 module _ {A B : Type 0} where
   pub flatMap-intro : (f : A → List B) {a : A} {l : List A} {b : B} → a ∈ l → b ∈ f a → b ∈ flatMap f l
@@ -154,14 +180,6 @@ module _ {A B : Type 0} where
 -- ── The first that passes ──
 
 module _ {A : Type 0} where
-  pub first-passes : (f : A → Bool) (x : A) (xs : List A) → f x ≡ true → first f (x ∷ xs) ≡ some x
-  unfolding first
-  first-passes f x xs e = rw (e, first)
-
-  pub first-fails : (f : A → Bool) (x : A) (xs : List A) → f x ≡ false → first f (x ∷ xs) ≡ first f xs
-  unfolding first
-  first-fails f x xs e = rw (e, first)
-
   pub first-append : (f : A → Bool) (l m : List A) → first f (l ++ m) ≡ orElse (first f l) (first f m)
   unfolding first orElse
   first-append f [] m = refl

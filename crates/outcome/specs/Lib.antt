@@ -4,5 +4,6 @@ pub mod Verdicts
 pub mod Certificate
 pub mod Compare
 pub mod Conditions
+pub mod Listed
 pub mod Check
 pub mod Refusals

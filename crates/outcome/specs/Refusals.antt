@@ -1,21 +1,22 @@
 -- 01, "Turned back, in checking order", 11 to 14: for each refusal the case that 01 names for it. Nothing here goes by way of
 -- an outcome.
-use Prim.Native.Nat.{ℕ, _<_}
+use Prim.Native.Nat.{ℕ, _*_, _<_}
 use mathlib.Core.Path.{_≡_}
 use mathlib.Core.Logic.{_≢_}
-use mathlib.Core.Bool.{false}
+use mathlib.Core.Bool.{true, false}
 use mathlib.Core.List.{List, [], _∷_, _++_, flatMap}
 use lib.ListN.{length}
 use Rattle.fra.specs.Lists.{_∈_, Unique}
 use Rattle.fra.specs.Position.{legal, before}
 use Rattle.fra.specs.Rules.{Rules}
-use Rattle.fra.specs.Reach.{Reached, rounds}
+use Rattle.fra.specs.Game.{lostWithin, NeverLost}
+use Rattle.fra.specs.Reach.{Reached}
 use Rattle.fra.specs.declared.Position.{Position}
 use Rattle.fra.specs.declared.Task.{Task}
-use Rattle.outcome.specs.Verdicts.{Contest, kindOf}
-use Rattle.outcome.specs.Certificate.{certificateBy}
+use Rattle.outcome.specs.Verdicts.{Contest, kindOf, widthOf}
 use Rattle.outcome.specs.Compare.{capacity}
 use Rattle.outcome.specs.Conditions.{Accepts}
+use Rattle.outcome.specs.Listed.{Led}
 use Rattle.outcome.specs.Check.{positionOf, keptLength, lossLength}
 use Rattle.outcome.specs.declared.Verdict.{Verdict}
 
@@ -26,9 +27,19 @@ pub record TableTooSmall (g : Rules) (t : Task) (table : List ℕ) : Type 0 wher
   pub all-reached : (p : Position) → p ∈ positions → Reached g t p
   pub more : capacity table < length positions
 
--- 12: "The certificate is longer than its buffer."
-abbrev pub CertificateTooLong : Contest → Task → List ℕ → Type 0
-CertificateTooLong c t buffer = length buffer < length (certificateBy c t (rounds (c .rules) t (t .start)))
+-- 12: "The certificate is longer than its buffer." It has a record "for every reached position never lost" where the start is
+-- never lost, and otherwise for "the start and all positions that its attacks lead to".
+pub data CertificateTooLong (c : Contest) (t : Task) (buffer : List ℕ) : Type 0 where
+  kept-too-long : NeverLost (c .rules) t (t .start)
+      → (positions : List Position) → Unique positions
+      → ((p : Position) → p ∈ positions → Reached (c .rules) t p × NeverLost (c .rules) t p)
+      → length buffer < length positions * widthOf (c .kept)
+      → CertificateTooLong c t buffer
+  lost-too-long : (n : ℕ) → lostWithin (c .rules) t n (t .start) ≡ true
+      → (positions : List Position) → Unique positions
+      → ((p : Position) → p ∈ positions → Led (c .rules) t p)
+      → length buffer < length positions * widthOf (c .lost)
+      → CertificateTooLong c t buffer
 
 -- ── 13: "A proposed certificate has an unknown kind, two kinds, a cut body, an illegal position, or does not rise strictly by
 -- position." ──

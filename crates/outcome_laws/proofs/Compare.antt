@@ -1,5 +1,5 @@
 -- The outcome of a comparison, case by case: 11, 12 or a verdict, and what each says. Assumes nothing.
-use Prim.Native.Nat.{ℕ, _≤_, _<_}
+use Prim.Native.Nat.{ℕ, suc, _≤_, _<_}
 use mathlib.Core.Path.{_≡_, refl, sym, _∙_, ap}
 use mathlib.Core.Logic.{_⊎_, inl, inr, _↔_}
 use mathlib.Core.Bool.{Bool, true, false}
@@ -15,12 +15,14 @@ use Rattle.fra.specs.declared.Task.{Task}
 use Rattle.fra_laws.proofs.Tests.{clash}
 use Rattle.fra_laws.proofs.Reached.{reached-exactly, reached-unique, reached-longest}
 use Rattle.outcome.specs.Bytes.{cleared, thenZeros, thenRest}
-use Rattle.outcome.specs.Verdicts.{Contest}
+use Rattle.outcome.specs.Verdicts.{Contest, widthOf}
 use Rattle.outcome.specs.Certificate.{entries, certificateBy}
 use Rattle.outcome.specs.Compare.{Outcome, capacity, decided, refusedLate, judge, compareTask}
+use Rattle.outcome.specs.Check.{keptLength, lossLength}
 use Rattle.outcome.specs.declared.Comparison.the-variants.{Decided, Refused}
 use Rattle.outcome.specs.declared.Verdict.{Verdict}
 use Rattle.outcome.specs.Refusals.{TableTooSmall, CertificateTooLong}
+use Rattle.outcome_laws.proofs.CertificateLengths.{too-long-exactly}
 
 module _ (c : Contest) (t : Task) (table buffer : List ℕ) where
   -- the start's rounds, and the certificate
@@ -152,15 +154,20 @@ module _ (c : Contest) (t : Task) (table buffer : List ℕ) where
         ((n ≡ 11) × TableTooSmall (c .rules) t table)
         ⊎ (n ≡ 12) × (TableTooSmall (c .rules) t table → ⊥) × CertificateTooLong c t buffer
 
-    pub refused-exactly : (n : ℕ) → (compareTask c t table buffer .answer ≡ Refused n) ↔ Late n
+    -- where records are as wide as those of r registers
+    pub refused-exactly : widthOf (c .kept) ≡ suc (keptLength r) → widthOf (c .lost) ≡ suc (lossLength r)
+        → (n : ℕ) → (compareTask c t table buffer .answer ≡ Refused n) ↔ Late n
     unfolding refusedLate
-    refused-exactly n = (to compared, from compared)
+    refused-exactly kept-wide lost-wide n = (to compared, from compared)
       where
+        long-exactly : CertificateTooLong c t buffer ↔ (length buffer < length written)
+        long-exactly = too-long-exactly valid c kept-wide lost-wide buffer
+
         to : {o : Outcome} → Compared o → o .answer ≡ Refused n → Late n
         to (too-small h) e = let d : n ≡ 11 = cc in inl (d, too-small-exactly .0 h)
         to (too-long h l) e =
             let d : n ≡ 12 = cc in
-            inr (d, λ small. let s = too-small-exactly .1 small in omega arith, l)
+            inr (d, λ small. let s = too-small-exactly .1 small in omega arith, long-exactly .1 l)
         to (verdict h l) e = absurd (decided-not-refused (length (reached (c .rules) t)) (length written) n start e)
 
         from : {o : Outcome} → Compared o → Late n → o .answer ≡ Refused n
@@ -169,4 +176,4 @@ module _ (c : Contest) (t : Task) (table buffer : List ℕ) where
         from (too-long h l) (inl (d, small)) = let s = too-small-exactly .1 small in absurd (omega arith)
         from (too-long h l) (inr (d, fits, long)) = ap (λ (k : ℕ). Refused k) (sym d)
         from (verdict h l) (inl (d, small)) = let s = too-small-exactly .1 small in absurd (omega arith)
-        from (verdict h l) (inr (d, fits, long)) = absurd (omega arith)
+        from (verdict h l) (inr (d, fits, long)) = let s = long-exactly .0 long in absurd (omega arith)

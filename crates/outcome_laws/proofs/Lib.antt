@@ -7,6 +7,9 @@ pub mod Encoding
 pub mod Malformed
 pub mod Check
 pub mod Conditions
+pub mod FirstAttacks
 pub mod WrittenLists
+pub mod MetConditions
+pub mod CertificateLengths
 pub mod Compare
 pub mod OwnCertificate

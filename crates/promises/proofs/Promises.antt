@@ -88,7 +88,7 @@ module _ (file table buffer : List ℕ) where
       by : (a : Answer) → readTask file .answer ≡ a → (outcome .answer ≡ Refused n) ↔ ComparerRefusal n
       by Read e =
           let same = ap (λ (o : Outcome). o .answer) (compared-read equality file table buffer e) in
-          let late = refused-exactly equality (taskOf file) table buffer (read-valid file e) n in (
+          let late = refused-exactly equality (taskOf file) table buffer (read-valid file e) refl refl n in (
             λ h. inr (e, late .0 (sym same ∙ h)),
             ⊎-elim
                 (λ back. let d = unread-exactly file n .1 back in clash (cc))

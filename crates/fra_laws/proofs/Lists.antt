@@ -1,6 +1,6 @@
 -- Laws of the functions on lists that the definitions use. Assumes nothing.
 use Prim.Native.Nat.{ℕ, zero, suc, _+_, _≤_, _<_}
-use mathlib.Core.Path.{_≡_, refl, sym, _∙_, ap, subst}
+use mathlib.Core.Path.{_≡_, refl, sym, _∙_, ap, ap₂, subst}
 use mathlib.Core.Logic.{_⊎_, inl, inr, ⊎-elim}
 use mathlib.Core.Bool.{Bool, true, false, false≢true, true≢false}
 use mathlib.Core.List.{List, [], _∷_, _++_, map, flatMap, List·Memᴰ·head, List·Memᴰ·tail, List·Memᴰ·not-nil, List·Memᴰ·cases-cons, List·Memᴰ·append-cases, Memᴰ·append-left, Memᴰ·append-right, Memᴰ·cast}
@@ -165,6 +165,12 @@ module _ {A : Type 0} where
       step (some x) e = let (m, p) = first-found f l x e in absurd (any-none f h m p)
 
 module _ {A B : Type 0} where
+  -- what undoes a function at each element undoes it on the list
+  pub map-undone : (f : A → B) (h : B → A) (l : List A) → ((a : A) → a ∈ l → h (f a) ≡ a) → map h (map f l) ≡ l
+  map-undone f h [] e = refl
+  map-undone f h (a ∷ l) e =
+      ap₂ {C = List A} (λ b m. b ∷ m) (e a (List·Memᴰ·head refl)) (map-undone f h l (λ b m. e b (List·Memᴰ·tail m)))
+
   pub flatMap-intro : (f : A → List B) {a : A} {l : List A} {b : B} → a ∈ l → b ∈ f a → b ∈ flatMap f l
   unfolding flatMap
   flatMap-intro f {b = b} (List·Memᴰ·head {x = x} {xs = xs} e) m =

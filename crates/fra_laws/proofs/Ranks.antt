@@ -33,6 +33,13 @@ module _ (g : Rules) (t : Task) where
   pub rank-least : {p : Position} {j : ℕ} (k : ℕ) → HasRank g t p j → lostWithin g t k p ≡ true → j ≤ k
   rank-least {p} {j} k r h = elim (decLe j k) [ yes d ↦ d | no d ↦ absurd (not-both _ h (r .not-before k (omega arith))) ]
 
+  -- a position has one rank
+  pub same-rank : {p : Position} {n m : ℕ} → HasRank g t p n → HasRank g t p m → n ≡ m
+  same-rank {n = n} {m = m} a b =
+      let x = rank-least m a (b .lost) in
+      let y = rank-least n b (a .lost) in
+      omega arith
+
   pub rank-some : (n : ℕ) (p : Position) (k : ℕ) → rank g t n p ≡ some k → HasRank g t p k × (k ≤ n)
   unfolding rank
   rank-some n p k e =
@@ -43,6 +50,14 @@ module _ (g : Rules) (t : Task) where
   unfolding rank
   rank-none n p e = least-none (λ j. lostWithin g t j p) 0 (suc n) e n (omega arith) (omega arith)
 
+  -- a position that is lost within n rounds has a rank, at most n
+  pub lost-ranked : (n : ℕ) (p : Position) → lostWithin g t n p ≡ true → (k : ℕ) × HasRank g t p k × (k ≤ n)
+  lost-ranked n p h = found (rank g t n p) refl
+    where
+      found : (o : Option ℕ) → rank g t n p ≡ o → (k : ℕ) × HasRank g t p k × (k ≤ n)
+      found none e = absurd (not-both _ h (rank-none n p e))
+      found (some k) e = let (r, b) = rank-some n p k e in (k, r, b)
+
   -- `rank` finds the rank
   pub rank-exactly : (n : ℕ) (p : Position) (k : ℕ) → (rank g t n p ≡ some k) ↔ (HasRank g t p k × (k ≤ n))
   rank-exactly n p k = (rank-some n p k, λ (r, b). found (rank g t n p) refl r b)
@@ -50,10 +65,7 @@ module _ (g : Rules) (t : Task) where
       found : (o : Option ℕ) → rank g t n p ≡ o → HasRank g t p k → k ≤ n → rank g t n p ≡ some k
       found none e r b = absurd (not-both _ (lost-within-more g t k n p b (r .lost)) (rank-none n p e))
       found (some j) e r b =
-          let (s, c) = rank-some n p j e in
-          let x = rank-least k s (r .lost) in
-          let y = rank-least j r (s .lost) in
-          e ∙ ap {B = Option ℕ} some (omega arith)
+          e ∙ ap {B = Option ℕ} some (same-rank (rank-some n p j e .0) r)
 
   -- a position has rank k + 1 exactly if it is not lost at once, some attack wins within k rounds and none wins within fewer
   pub rank-rounds : (p : Position) (k : ℕ)

@@ -1,10 +1,10 @@
 -- What the checker answers on a task, number by number, for any register count and any contest whose two certificates have
 -- different kinds. Refusal 13 is at the end of `Malformed`. Assumes nothing.
 use Prim.Native.Nat.{ℕ, _<_, _^_}
-use mathlib.Core.Path.{_≡_, refl, sym, _∙_, ap, ap₂}
+use mathlib.Core.Path.{_≡_, refl, sym, _∙_, ap}
 use mathlib.Core.Logic.{_⊎_, inl, inr, _≢_, _↔_}
 use mathlib.Core.Bool.{true, false}
-use mathlib.Core.List.{List, [], _∷_, _++_, map, flatMap, map-map, List·Memᴰ·head, List·Memᴰ·not-nil, List·Memᴰ·tail, List·Memᴰ·cases-cons, Memᴰ·map, Memᴰ·of-map}
+use mathlib.Core.List.{List, [], _∷_, _++_, map, flatMap, map-map, List·Memᴰ·not-nil, List·Memᴰ·tail, List·Memᴰ·cases-cons, Memᴰ·map, Memᴰ·of-map}
 use native.Mathlib.Omega.{arith}
 use lib.ListN.{length}
 use Rattle.fra.specs.Lists.{_∈_}
@@ -12,7 +12,7 @@ use Rattle.fra.specs.Position.{legal, before, bytes, Rising}
 use Rattle.fra.specs.declared.Position.{Position}
 use Rattle.fra.specs.declared.Task.{Task}
 use Rattle.fra_laws.proofs.Tests.{clash, not-both, fails-unless}
-use Rattle.fra_laws.proofs.Lists.{flatMap-intro}
+use Rattle.fra_laws.proofs.Lists.{map-undone, flatMap-intro}
 use Rattle.fra_laws.proofs.Order.{before-irreflexive}
 use Rattle.outcome.specs.Verdicts.{Contest, kindOf}
 use Rattle.outcome.specs.Certificate.{Loss, placeOf, keptRecord, lossRecord}
@@ -29,12 +29,6 @@ use Rattle.outcome_laws.proofs.Encoding.{Bytes, lossBody, position-leng
 use Rattle.outcome_laws.proofs.Malformed.{accepts, verdict, rounds, judged, check-whole, Answer, malformed, rejected, accepted, answer, check-refused-13}
 
 -- ── Lists that are encoded and decoded ──
-
--- what undoes a function at each element undoes it on the list
-map-undone : {A B : Type 0} (f : A → B) (g : B → A) (l : List A) → ((a : A) → a ∈ l → g (f a) ≡ a) → map g (map f l) ≡ l
-map-undone f g [] h = refl
-map-undone {A} f g (a ∷ l) h =
-    ap₂ {C = List A} (λ b m. b ∷ m) (h a (List·Memᴰ·head refl)) (map-undone f g l (λ b m. h b (List·Memᴰ·tail m)))
 
 -- the bytes of a list are the records of its bodies
 records-of : {A : Type 0} (kind : ℕ) (body : A → List ℕ) (l : List A)

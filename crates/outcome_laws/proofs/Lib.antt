@@ -9,6 +9,7 @@ pub mod Check
 pub mod Conditions
 pub mod FirstAttacks
 pub mod WrittenLists
+pub mod LeftBehind
 pub mod MetConditions
 pub mod CertificateLengths
 pub mod Compare

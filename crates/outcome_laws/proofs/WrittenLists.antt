@@ -1,29 +1,28 @@
 -- The lists that a comparison writes: the positions kept are those reached that are never lost, and those of a lost start are what
 -- the first attacks lead to, all of them lost. Assumes nothing.
 use Prim.Native.Nat.{ℕ, zero, suc, _≤_}
-use mathlib.Core.Path.{_≡_, refl, _∙_, ap, ap₂, subst}
+use mathlib.Core.Path.{_≡_, refl, ap, subst}
 use mathlib.Core.Logic.{_↔_}
 use mathlib.Core.Bool.{true, false≢true}
-use mathlib.Core.List.{List, [], _∷_, map, map-map, List·Memᴰ·not-nil, Memᴰ·map, Memᴰ·of-map}
+use mathlib.Core.List.{List, [], _∷_, map, List·Memᴰ·not-nil, Memᴰ·map, Memᴰ·of-map}
 use mathlib.Core.Option.{Option, none, some}
 use lib.ListN.{length}
 use Rattle.fra.specs.Lists.{_∈_}
 use Rattle.fra.specs.Rules.{Rules}
 use Rattle.fra.specs.Position.{legal, Rising}
-use Rattle.fra.specs.Game.{replies, after, lostWithin, NeverLost, HasRank}
+use Rattle.fra.specs.Game.{replies, after, NeverLost, HasRank}
 use Rattle.fra.specs.Reach.{Closure, begin, onward, closed, enough, reached, rank, rounds}
 use Rattle.fra.specs.Valid.{Valid}
 use Rattle.fra.specs.declared.Position.{Position}
 use Rattle.fra.specs.declared.Task.{Task}
 use Rattle.fra.specs.declared.Attack.{Attack}
-use Rattle.fra_laws.proofs.Tests.{not-both}
-use Rattle.fra_laws.proofs.Lists.{keep-intro, keep-elim}
+use Rattle.fra_laws.proofs.Lists.{keep-intro, keep-elim, map-undone}
 use Rattle.fra_laws.proofs.Order.{keep-rising}
-use Rattle.fra_laws.proofs.Closure.{Computes, closure-keeps}
+use Rattle.fra_laws.proofs.Closure.{Computes}
 use Rattle.fra_laws.proofs.Legal.{after-legal}
 use Rattle.fra_laws.proofs.Reached.{enough-computes, reached-start, reached-after, reached-rising}
-use Rattle.fra_laws.proofs.Ranks.{Closed, rank-least, rank-exactly, rank-never, rank-at-most-length}
-use Rattle.outcome.specs.Certificate.{Loss, placeOf, isNever, roundsOrNever, keptPositions, chosen, attackOf, attackLeads, lossStep, lossWith, lossOf, losses}
+use Rattle.fra_laws.proofs.Ranks.{Closed, lost-ranked, rank-exactly, rank-never, rank-at-most-length}
+use Rattle.outcome.specs.Certificate.{Loss, placeOf, isNever, keptPositions, chosen, attackOf, attackLeads, lossStep, lossWith, lossOf, losses}
 use Rattle.outcome.specs.Listed.{FirstAttack, Led, at-start, by-reply}
 use Rattle.outcome_laws.proofs.FirstAttacks.{first-exists, chosen-first}
 
@@ -31,21 +30,17 @@ never-none : (o : Option ℕ) → isNever o ≡ true → o ≡ none
 never-none none h = refl
 never-none (some n) h = absurd (false≢true h)
 
--- what a record says of its position and rounds, whatever attack it names
+-- the position of a record, whatever attack it names
 pub loss-position : (p : Position) (n : Option ℕ) (o : Option Attack) → lossWith p n o .position ≡ p
 unfolding lossWith
 loss-position p n none = refl
 loss-position p n (some a) = refl
 
-pub loss-rounds : (p : Position) (n : Option ℕ) (o : Option Attack) → lossWith p n o .rounds ≡ roundsOrNever n
-unfolding lossWith
-loss-rounds p n none = refl
-loss-rounds p n (some a) = refl
-
--- a function that leaves each element as it is leaves the list
-map-same : {A : Type 0} (f : A → A) (l : List A) → ((a : A) → f a ≡ a) → map f l ≡ l
-map-same f [] h = refl
-map-same {A} f (a ∷ l) h = ap₂ {C = List A} (λ b m. b ∷ m) (h a) (map-same f l h)
+-- where the start is lost, so is all that the first attacks lead to
+pub led-ranked : {g : Rules} {t : Task} {n : ℕ} → HasRank g t (t .start) n → {p : Position} → Led g t p → (k : ℕ) × HasRank g t p k
+led-ranked {n = n} h at-start = (n, h)
+led-ranked {g} {t} h (by-reply {p = p} {n = j} {a = a} {k = i} l d f m) =
+    let (k, s, b) = lost-ranked g t j (after t p a i) (f .lost i m) in (k, s)
 
 module _ {r : ℕ} {t : Task} (valid : Valid r t) (g : Rules) where
   abbrev pub N : ℕ
@@ -124,7 +119,7 @@ module _ {r : ℕ} {t : Task} (valid : Valid r t) (g : Rules) where
       by-rank (some zero) e m = absurd (List·Memᴰ·not-nil m)
       by-rank (some (suc j)) e m = by-attack j e (chosen g t j p) refl m
 
-  pub step-intro : (p : Position) (j : ℕ) (a : Attack) (k : ℕ) → rank g t N p ≡ some (suc j) → FirstAttack g t p j a
+  step-intro : (p : Position) (j : ℕ) (a : Attack) (k : ℕ) → rank g t N p ≡ some (suc j) → FirstAttack g t p j a
       → k ∈ replies t p a
       → after t p a k ∈ lossStep g t N p
   unfolding lossStep attackOf attackLeads
@@ -142,7 +137,7 @@ module _ {r : ℕ} {t : Task} (valid : Valid r t) (g : Rules) where
       subst (λ (x : Position). legal r t x ≡ true) (s .leads)
       (after-legal valid g p (s .attack) (s .reply) h (first-exists (s .first)) (s .replies-to)))
 
-  led-reached : {p : Position} → Led g t p → p ∈ reached g t
+  pub led-reached : {p : Position} → Led g t p → p ∈ reached g t
   led-reached at-start = reached-start valid g
   led-reached (by-reply {p = p} {a = a} {k = k} l h f m) = reached-after valid g p a k (led-reached l) (first-exists f) m
 
@@ -164,8 +159,7 @@ module _ {r : ℕ} {t : Task} (valid : Valid r t) (g : Rules) where
   -- and the records have these positions, which are reached
   pub losses-places : map placeOf (losses g t) ≡ listed
   unfolding losses lossOf
-  losses-places =
-      map-map placeOf (lossOf g t N) listed ∙ map-same (λ p. lossOf g t N p .position) listed (λ p. loss-position p _ _)
+  losses-places = map-undone (lossOf g t N) placeOf listed (λ p m. loss-position p _ _)
 
   pub loss-reached : (x : Loss) → x ∈ losses g t → x .position ∈ reached g t
   loss-reached x m = led-reached (led-exactly (x .position) .0 (rw losses-places at (Memᴰ·map placeOf m)))
@@ -174,25 +168,9 @@ module _ {r : ℕ} {t : Task} (valid : Valid r t) (g : Rules) where
   abbrev pub LostIn : Position → ℕ → Type 0
   LostIn p k = (p ∈ reached g t) × (rank g t N p ≡ some k)
 
-  -- a reached position that is lost within n rounds has a rank of at most n
-  pub ranked : (p : Position) (n : ℕ) → p ∈ reached g t → lostWithin g t n p ≡ true → (k : ℕ) × LostIn p k × (k ≤ n)
-  ranked p n m h = found (rank g t N p) refl
-    where
-      found : (o : Option ℕ) → rank g t N p ≡ o → (k : ℕ) × LostIn p k × (k ≤ n)
-      found none e = absurd (not-both _ h (rank-never g t (reached g t) reached-closed p m .0 e n))
-      found (some k) e = (k, (m, e), rank-least g t n (rank-exactly g t N p k .0 e .0) h)
-
-  step-keeps : (p q : Position) → ((k : ℕ) × LostIn p k) → q ∈ lossStep g t N p → (k : ℕ) × LostIn q k
-  step-keeps p q (k, l) n =
-      let s = step-elim p q n in
-      let (j, f, b) =
-      ranked q (s .rounds-left)
-      (rw (s .leads) at (reached-after valid g p (s .attack) (s .reply) (l .0) (first-exists (s .first)) (s .replies-to)))
-      (rw (s .leads) at (s .first .lost (s .reply) (s .replies-to))) in
-      (j, f)
-
   -- every listed position of a lost start is lost
   pub listed-lost : (n : ℕ) → rounds g t (t .start) ≡ some n → (p : Position) → p ∈ listed → (k : ℕ) × LostIn p k
-  unfolding rounds
   listed-lost n e p m =
-      closure-keeps (λ q. (k : ℕ) × LostIn q k) (n, (reached-start valid g, e)) step-keeps (listed-computes .sound p m)
+      let l = led-exactly p .0 m in
+      let (k, h) = led-ranked (rounds-least n e .0) l in
+      (k, (led-reached l, rank-found p k (led-reached l) .1 h))

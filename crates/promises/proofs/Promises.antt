@@ -29,6 +29,7 @@ use Rattle.outcome.specs.declared.Comparison.the-variants.{Decided, Refused}
 use Rattle.outcome.specs.declared.Check.the-variants.{Accepted, Refused as Rejected}
 use Rattle.numbers.specs.Numbers.{Setting, Opening, Enough, LeastEnough}
 use Rattle.fra_laws.proofs.Tests.{clash, not-both}
+use Rattle.fra_laws.proofs.Ranks.{same-rank}
 use Rattle.fra_laws.proofs.Reached.{reached-start, reached-legal}
 use Rattle.fra_laws.proofs.Bisimulation.{keptMembers, never-lost-in-bisimulation, lost-in-no-bisimulation}
 use Rattle.task_laws.proofs.ReadValid.{read-valid}
@@ -48,7 +49,7 @@ use Rattle.exports.proofs.nuldopa_compare.Statement.{statement as compare-for-c
 use Rattle.exports.proofs.nuldopa_compare.Met.{met as compare-for-c-met}
 use Rattle.exports.proofs.nuldopa_check.Statement.{statement as check-for-c-statement}
 use Rattle.exports.proofs.nuldopa_check.Met.{met as check-for-c-met}
-use Rattle.promises.proofs.Support.{compared-read, compared-unread, decided-read, verdict-start, same-rank, written-part, checked-read, checked-unread, count-most, count-fits}
+use Rattle.promises.proofs.Support.{compared-read, compared-unread, decided-read, verdict-start, written-part, checked-read, checked-unread, count-most, count-fits}
 
 -- ── The functions that the definitions below speak of ──
 
@@ -295,7 +296,7 @@ module _ (file table buffer : List ℕ) (v : Verdict) (positions n size : ℕ)
         )
         by (inr (e, rank, bound)) = (
           λ (d, f). least .1 (subst (HasRank bisimulation (taskOf file) (taskOf file .start)) f rank),
-          λ h. (e, same-rank rank (least .0 h)),
+          λ h. (e, same-rank bisimulation (taskOf file) rank (least .0 h)),
         )
 
     -- EQUAL is given exactly when no count is enough.

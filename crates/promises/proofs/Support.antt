@@ -11,7 +11,6 @@ use Rattle.fra.specs.Game.{NeverLost, HasRank}
 use Rattle.fra.specs.Reach.{reached, rounds}
 use Rattle.fra.specs.Valid.{Valid}
 use Rattle.fra.specs.declared.Side.the-variants.{Left, Right}
-use Rattle.fra.specs.declared.Position.{Position}
 use Rattle.fra.specs.declared.Task.{Task}
 use Rattle.fra_laws.proofs.Tests.{clash}
 use Rattle.task.specs.TaskFile.{readTask, taskOf, maxRegisters}
@@ -27,7 +26,6 @@ use Rattle.outcome.specs.declared.Check.the-variants.{Refused as Rejected}
 use Rattle.outcome.specs.declared.Comparison.the-variants.{Decided, Refused}
 use Rattle.fra_laws.proofs.LegalPositions.{most-positions}
 use Rattle.fra_laws.proofs.Reached.{reached-unique, reached-legal}
-use Rattle.fra_laws.proofs.Ranks.{rank-least}
 use Rattle.task_laws.proofs.ReadValid.{read-valid, read-limits}
 use Rattle.outcome_laws.proofs.WrittenLists.{rounds-never, rounds-least}
 use Rattle.outcome_laws.proofs.Compare.{Says, verdict-says}
@@ -74,13 +72,6 @@ verdict-start valid c says =
     let count = says .count in
     inr (e, rank, omega arith))
     (says .start)
-
--- two counts of which each is the least within which a position is lost are one
-pub same-rank : {g : Rules} {t : Task} {p : Position} {n m : ℕ} → HasRank g t p n → HasRank g t p m → n ≡ m
-same-rank {g} {t} {n = n} {m = m} a b =
-    let x = rank-least g t m a (b .lost) in
-    let y = rank-least g t n b (a .lost) in
-    omega arith
 
 -- the part of the certificate buffer that a verdict's length names is the certificate
 pub written-part : (c : Contest) (file table buffer : List ℕ) {v : Verdict} {positions n size : ℕ}

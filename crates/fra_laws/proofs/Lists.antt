@@ -171,6 +171,19 @@ module _ {A B : Type 0} where
   map-undone f h (a ∷ l) e =
       ap₂ {C = List A} (λ b m. b ∷ m) (e a (List·Memᴰ·head refl)) (map-undone f h l (λ b m. e b (List·Memᴰ·tail m)))
 
+  -- two lists of elements that are told apart by their keys
+  pub keys-same : (key : A → B) (l m : List A) → map key l ≡ map key m
+      → ((a b : A) → a ∈ l → b ∈ m → key a ≡ key b → a ≡ b)
+      → l ≡ m
+  keys-same key [] [] e h = refl
+  keys-same key [] (b ∷ m) e h = clash (cc)
+  keys-same key (a ∷ l) [] e h = clash (cc)
+  keys-same key (a ∷ l) (b ∷ m) e h =
+      let d : key a ≡ key b = cc in
+      let f : map key l ≡ map key m = cc in
+      ap₂ {C = List A} (λ x xs. x ∷ xs) (h a b (List·Memᴰ·head refl) (List·Memᴰ·head refl) d)
+      (keys-same key l m f (λ x y i j. h x y (List·Memᴰ·tail i) (List·Memᴰ·tail j)))
+
   pub flatMap-intro : (f : A → List B) {a : A} {l : List A} {b : B} → a ∈ l → b ∈ f a → b ∈ flatMap f l
   unfolding flatMap
   flatMap-intro f {b = b} (List·Memᴰ·head {x = x} {xs = xs} e) m =

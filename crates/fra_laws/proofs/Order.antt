@@ -1,13 +1,13 @@
 -- The order of strings is a strict total order, and so is that of positions by their bytes. Assumes nothing.
 use Prim.Native.Nat.{ℕ, _<_}
 use mathlib.Core.Path.{_≡_, refl, sym, _∙_, ap₂}
-use mathlib.Core.Logic.{_⊎_, inl, inr}
+use mathlib.Core.Logic.{_⊎_, inl, inr, ⊎-elim, _↔_}
 use mathlib.Core.Bool.{Bool, true, false, _&&_, _||_, false≢true, true≢false}
-use mathlib.Core.List.{List, [], _∷_}
+use mathlib.Core.List.{List, [], _∷_, List·Memᴰ·head, List·Memᴰ·tail, List·Memᴰ·not-nil, List·Memᴰ·cases-cons}
 use native.Mathlib.Omega.{arith}
 use lib.Dec.{ltb, eqb}
 use borrow.Author.Tests.{ltb-true, ltb-false, eqb-true, lt-ltb, le-ltb, eq-eqb}
-use Rattle.fra.specs.Lists.{below, equal, keep}
+use Rattle.fra.specs.Lists.{_∈_, below, equal, keep}
 use Rattle.fra.specs.Position.{bytes, before, Rising}
 use Rattle.fra.specs.declared.Position.{Position}
 use Rattle.fra_laws.proofs.Tests.{and-left, and-right, and-intro, or-cases, or-left, or-right, or-false-left, or-false-right, not-both, fails-unless}
@@ -118,3 +118,31 @@ keep-rising f (p ∷ l) (above, rest) = step (f p) refl (keep-rising f l rest)
     step : (b : Bool) → f p ≡ b → Rising (keep f l) → Rising (keep f (p ∷ l))
     step true e r = rw (keep-passes f p l e) (λ q m. above q (keep-elim f q l m .0), r)
     step false e r = rw (keep-fails f p l e) r
+
+-- two rising lists with the same members are one
+pub rising-same : (l m : List Position) → Rising l → Rising m → ((p : Position) → p ∈ l ↔ p ∈ m) → l ≡ m
+rising-same [] [] r s h = refl
+rising-same [] (q ∷ m) r s h = absurd (List·Memᴰ·not-nil (h q .1 (List·Memᴰ·head refl)))
+rising-same (p ∷ l) [] r s h = absurd (List·Memᴰ·not-nil (h p .0 (List·Memᴰ·head refl)))
+rising-same (p ∷ l) (q ∷ m) (above, r) (beyond, s) h =
+    ap₂ {C = List Position} (λ x xs. x ∷ xs) same (rising-same l m r s (λ x. (to x, from x)))
+  where
+    first : (p ≡ q) ⊎ (p ∈ m) → (q ≡ p) ⊎ (q ∈ l) → p ≡ q
+    first (inl e) b = e
+    first (inr i) (inl e) = sym e
+    first (inr i) (inr j) =
+        absurd (not-both (before p p) (before-transitive p q p (above q j) (beyond p i)) (before-irreflexive p))
+
+    same : p ≡ q
+    same =
+        first (List·Memᴰ·cases-cons (h p .0 (List·Memᴰ·head refl))) (List·Memᴰ·cases-cons (h q .1 (List·Memᴰ·head refl)))
+
+    to : (x : Position) → x ∈ l → x ∈ m
+    to x i =
+        ⊎-elim (λ (e : x ≡ q). absurd (not-both (before p x) (above x i) (rw (e ∙ sym same) (before-irreflexive p)))) (λ j. j)
+        (List·Memᴰ·cases-cons (h x .0 (List·Memᴰ·tail i)))
+
+    from : (x : Position) → x ∈ m → x ∈ l
+    from x i =
+        ⊎-elim (λ (e : x ≡ p). absurd (not-both (before q x) (beyond x i) (rw (e ∙ same) (before-irreflexive q)))) (λ j. j)
+        (List·Memᴰ·cases-cons (h x .1 (List·Memᴰ·tail i)))

@@ -47,7 +47,8 @@ module _ {r : ℕ} {t : Task} (valid : Valid r t) (c : Contest) where
     unfolding certificateBy keptRecord
     kept-length =
         flatMap-length (keptRecord (kindOf (c .kept))) (keptPositions g t) (widthOf (c .kept))
-        (λ p m. let b = position-length r p (partners-long p (kept-exactly valid g p .0 m .0)) in omega arith)
+        (λ p m.
+        let b = position-length r p (partners-long p (reached-exactly valid g p .1 (kept-exactly valid g p .0 m .0))) in omega arith)
 
     losses-length : (n : ℕ) → length (certificateBy c t (some n)) ≡ length (listed valid g) * widthOf (c .lost)
     unfolding certificateBy lossRecord
@@ -70,15 +71,13 @@ module _ {r : ℕ} {t : Task} (valid : Valid r t) (c : Contest) where
 
             to : CertificateTooLong c t buffer → length buffer < length (keptPositions g t) * widthOf (c .kept)
             to (kept-too-long _ positions u h more) =
-                outnumbered (keptPositions g t) (λ p (m, n). kept-exactly valid g p .1 (reached-exactly valid g p .1 m, n))
-                (widthOf (c .kept)) (length buffer) positions u h more
+                outnumbered (keptPositions g t) (λ p. kept-exactly valid g p .1) (widthOf (c .kept)) (length buffer) positions u h more
             to (lost-too-long n lost positions u h more) = absurd (not-both _ lost (never n))
 
             from : length buffer < length (keptPositions g t) * widthOf (c .kept) → CertificateTooLong c t buffer
             from more =
                 kept-too-long never (keptPositions g t) (rising-unique (keptPositions g t) (kept-rising valid g))
-                (λ p m. let (i, n) = kept-exactly valid g p .0 m in (reached-exactly valid g p .0 i, n))
-                more
+                (λ p. kept-exactly valid g p .0) more
         by (some n) e = rw (e, losses-length n) (to, from)
           where
             to : CertificateTooLong c t buffer → length buffer < length (listed valid g) * widthOf (c .lost)
@@ -90,5 +89,4 @@ module _ {r : ℕ} {t : Task} (valid : Valid r t) (c : Contest) where
             from more =
                 lost-too-long n (rounds-least valid g n e .0 .lost) (listed valid g)
                 (rising-unique (listed valid g) (listed-computes valid g .rising))
-                (λ p. led-exactly valid g p .0)
-                more
+                (λ p. led-exactly valid g p .0) more

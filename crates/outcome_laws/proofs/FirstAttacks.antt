@@ -23,7 +23,7 @@ pub first-exists : {g : Rules} {t : Task} {p : Position} {n : ℕ} {a : Attack} 
 first-exists f = rw (f .place) (Memᴰ·append-right (f .earlier) (List·Memᴰ·head refl))
 
 module _ (g : Rules) (t : Task) (n : ℕ) (p : Position) where
-  pub wins-exactly : (a : Attack) → (wins g t n p a ≡ true) ↔ RepliesLost g t p n a
+  wins-exactly : (a : Attack) → (wins g t n p a ≡ true) ↔ RepliesLost g t p n a
   unfolding wins
   wins-exactly a = (λ w k. all-at (λ k. lostWithin g t n (after t p a k)) w, all-intro _ (replies t p a))
 

@@ -82,10 +82,7 @@ module _ {r : ℕ} {t : Task} (valid : Valid r t) (c : Contest) where
         positions = keptPositions g t;
         encoded = refl;
         rising = kept-rising valid g;
-        exactly = λ p. (
-          λ m. let (i, n) = kept-exactly valid g p .0 m in (reached-exactly valid g p .0 i, n),
-          λ (i, n). kept-exactly valid g p .1 (reached-exactly valid g p .1 i, n),
-        );
+        exactly = kept-exactly valid g;
       }
 
   pub losses-left : (n : ℕ) → HasRank g t (t .start) n → LossesWritten c t (certificateBy c t (some n))

@@ -10,6 +10,7 @@ pub mod Conditions
 pub mod FirstAttacks
 pub mod WrittenLists
 pub mod LeftBehind
+pub mod LeftFixed
 pub mod MetConditions
 pub mod CertificateLengths
 pub mod Compare

@@ -11,7 +11,7 @@ use Rattle.fra.specs.Lists.{_∈_}
 use Rattle.fra.specs.Rules.{Rules}
 use Rattle.fra.specs.Position.{legal, Rising}
 use Rattle.fra.specs.Game.{replies, after, NeverLost, HasRank}
-use Rattle.fra.specs.Reach.{Closure, begin, onward, closed, enough, reached, rank, rounds}
+use Rattle.fra.specs.Reach.{Closure, begin, onward, Reached, closed, enough, reached, rank, rounds}
 use Rattle.fra.specs.Valid.{Valid}
 use Rattle.fra.specs.declared.Position.{Position}
 use Rattle.fra.specs.declared.Task.{Task}
@@ -20,7 +20,7 @@ use Rattle.fra_laws.proofs.Lists.{keep-intro, keep-elim, map-undone}
 use Rattle.fra_laws.proofs.Order.{keep-rising}
 use Rattle.fra_laws.proofs.Closure.{Computes}
 use Rattle.fra_laws.proofs.Legal.{after-legal}
-use Rattle.fra_laws.proofs.Reached.{enough-computes, reached-start, reached-after, reached-rising}
+use Rattle.fra_laws.proofs.Reached.{enough-computes, reached-exactly, reached-start, reached-after, reached-rising}
 use Rattle.fra_laws.proofs.Ranks.{Closed, lost-ranked, rank-exactly, rank-never, rank-at-most-length}
 use Rattle.outcome.specs.Certificate.{Loss, placeOf, isNever, keptPositions, chosen, attackOf, attackLeads, lossStep, lossWith, lossOf, losses}
 use Rattle.outcome.specs.Listed.{FirstAttack, Led, at-start, by-reply}
@@ -67,15 +67,17 @@ module _ {r : ℕ} {t : Task} (valid : Valid r t) (g : Rules) where
 
   -- ── The positions kept ──
 
-  pub kept-exactly : (p : Position) → (p ∈ keptPositions g t) ↔ ((p ∈ reached g t) × NeverLost g t p)
+  pub kept-exactly : (p : Position) → p ∈ keptPositions g t ↔ Reached g t p × NeverLost g t p
   unfolding keptPositions
   kept-exactly p = (
-    λ m.
-        let w = keep-elim (λ q. isNever (rank g t N q)) p (reached g t) m in
-        (w .0, rank-never g t (reached g t) reached-closed p (w .0) .0 (never-none (rank g t N p) (w .1))),
-    λ (m, h).
-        keep-intro (λ q. isNever (rank g t N q)) m
-        (ap isNever (rank-never g t (reached g t) reached-closed p m .1 h)),
+    λ k.
+        let (m, e) = keep-elim (λ q. isNever (rank g t N q)) p (reached g t) k in (
+          reached-exactly valid g p .0 m,
+          rank-never g t (reached g t) reached-closed p m .0 (never-none (rank g t N p) e),
+        ),
+    λ (i, h).
+        let m = reached-exactly valid g p .1 i in
+        keep-intro (λ q. isNever (rank g t N q)) m (ap isNever (rank-never g t (reached g t) reached-closed p m .1 h)),
   )
 
   pub kept-rising : Rising (keptPositions g t)

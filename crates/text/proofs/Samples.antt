@@ -1,0 +1,31 @@
+-- What 01 shows of `compare`'s text, evaluated on the definitions from the task's bytes on. Assumes nothing.
+use mathlib.Core.Path.{_≡_, refl}
+use mathlib.Core.List.{[], _++_}
+use lib.ListN.{replicate}
+use Rattle.outcome_marked.specs.MarkedCases.{P, G, end, outcome}
+use Rattle.text.specs.Text.{ascii, digitsWithin, decimal, prints}
+
+-- "On case 2 it prints"
+pub case-2-prints : prints (P ++ G ++ end) ≡ ascii "DIFFER 2 1\nLOST 0 0 0 0 0 0 0 0 1 0 7 1\n"
+unfolding prints outcome
+case-2-prints = refl
+
+-- case 1: "EQUAL lines are `KEPT` and eight numbers."
+pub case-1-prints : prints (P ++ P ++ end) ≡ ascii "EQUAL 2 0\nKEPT 0 0 0 0 0 0 0 0\nKEPT 1 1 1 0 0 0 0 0\n"
+unfolding prints outcome
+case-1-prints = refl
+
+-- case 7: "a refusal `REFUSED` and its number"
+pub case-7-prints : prints [] ≡ ascii "REFUSED 2\n"
+unfolding prints outcome
+case-7-prints = refl
+
+-- "Longer input prints `TOO LONG`"
+pub longer-prints : prints (replicate 4097 0) ≡ ascii "TOO LONG\n"
+unfolding prints
+longer-prints = refl
+
+-- the largest number of four bytes
+pub largest-number : decimal 4294967295 ≡ ascii "4294967295"
+unfolding digitsWithin decimal
+largest-number = refl

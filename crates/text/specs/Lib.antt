@@ -1,0 +1,3 @@
+-- The text that `compare` prints, and how it stands in a lent line.
+pub mod Text
+pub mod LentLine

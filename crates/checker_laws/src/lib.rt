@@ -1,1 +1,1 @@
-// Theory only: laws of a proposed certificate by the places of its records.
+// Definitions of a proposed certificate by the places of its records, in specs/, and their laws, in proofs/; nothing to run.

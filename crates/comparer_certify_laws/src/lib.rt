@@ -1,1 +1,1 @@
-// Theory: how marks in a table find the positions of a certificate. Nothing to run.
+// Definitions of marks in a table that find the positions of a certificate, in specs/, and their laws, in proofs/; nothing to run.

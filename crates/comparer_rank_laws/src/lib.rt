@@ -1,1 +1,1 @@
-// Laws of ranks found pass by pass: theorems in proofs/, nothing to run.
+// Definitions of ranks found pass by pass, in specs/, and their laws, in proofs/; nothing to run.

@@ -1,1 +1,1 @@
-// Laws of the definitions in fra: theorems in proofs/, nothing to run.
+// Laws of the definitions in fra, in proofs/, with one definition of their own in specs/; nothing to run.

@@ -1,5 +1,5 @@
 -- 01, "Rounds with actual numbers": the game that the readers play with object numbers. It shares with the symbolic game the
--- models and the rules (who attacks, which end marks lose at once), and nothing else.
+-- task (the models, their start states and pairs) and the rules (who attacks, which end marks lose at once), and nothing else.
 use Prim.Native.Nat.{ℕ, zero, suc, _+_, _*_, _≤_, _<_}
 use mathlib.Core.Path.{_≡_}
 use mathlib.Core.Logic.{_⊎_, _↔_}

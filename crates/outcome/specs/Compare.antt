@@ -28,8 +28,8 @@ capacity table = length table / 12
 
 -- "positions reached, rounds (0 for EQUAL) and certificate length"
 unfoldable pub decided : Contest → ℕ → Option ℕ → ℕ → Comparison
-decided c positions none length = Decided (c .kept) positions 0 length
-decided c positions (some n) length = Decided (c .lost) positions n length
+decided c positions none size = Decided (c .kept) positions 0 size
+decided c positions (some n) size = Decided (c .lost) positions n size
 
 -- a refusal that fills the table with zeros and leaves the certificate buffer
 unfoldable pub refusedLate : ℕ → List ℕ → List ℕ → Outcome

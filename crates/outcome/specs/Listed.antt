@@ -6,7 +6,7 @@ use mathlib.Core.Logic.{_⊎_, _↔_}
 use mathlib.Core.Bool.{true}
 use mathlib.Core.List.{List, _∷_, _++_, map, flatMap}
 use lib.ListN.{length}
-use Rattle.fra.specs.Lists.{_∈_}
+use Rattle.fra.specs.Lists.{_∈_, Unique}
 use Rattle.fra.specs.Position.{bytes, Rising}
 use Rattle.fra.specs.Rules.{Rules}
 use Rattle.fra.specs.Game.{attacks, replies, after, lostWithin, NeverLost, HasRank}
@@ -17,6 +17,15 @@ use Rattle.fra.specs.declared.Attack.{Attack}
 use Rattle.outcome.specs.Bytes.{word, allOnes}
 use Rattle.outcome.specs.Verdicts.{Contest, kindOf}
 use Rattle.outcome.specs.Certificate.{keptRecord, sideNumber, caseNumber, Loss, placeOf, lossRecord}
+
+-- ── The count ──
+
+-- as many positions have a property: they are the members of a list of this length in which none stands twice
+pub record Counted (has : Position → Type 0) (n : ℕ) : Type 0 where
+  pub positions : List Position
+  pub unique : Unique positions
+  pub exactly : (p : Position) → p ∈ positions ↔ has p
+  pub number : n ≡ length positions
 
 -- ── The table ──
 

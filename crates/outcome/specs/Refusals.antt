@@ -2,7 +2,7 @@
 -- an outcome.
 use Prim.Native.Nat.{ℕ, _*_, _<_}
 use mathlib.Core.Path.{_≡_}
-use mathlib.Core.Logic.{_≢_}
+use mathlib.Core.Logic.{_⊎_, _≢_}
 use mathlib.Core.Bool.{true, false}
 use mathlib.Core.List.{List, [], _∷_, _++_, flatMap}
 use lib.ListN.{length}
@@ -13,6 +13,8 @@ use Rattle.fra.specs.Game.{lostWithin, NeverLost}
 use Rattle.fra.specs.Reach.{Reached}
 use Rattle.fra.specs.declared.Position.{Position}
 use Rattle.fra.specs.declared.Task.{Task}
+use Rattle.task.specs.TaskFile.{maxRegisters, taskOf, IsRead}
+use Rattle.task.specs.Records.{TurnedBack}
 use Rattle.outcome.specs.Verdicts.{Contest, kindOf, widthOf}
 use Rattle.outcome.specs.Compare.{capacity}
 use Rattle.outcome.specs.Conditions.{Accepts}
@@ -82,3 +84,21 @@ pub data Malformed (r : ℕ) (c : Contest) (t : Task) (certificate : List ℕ) :
 pub record NotAccepted (r : ℕ) (c : Contest) (t : Task) (certificate : List ℕ) : Type 0 where
   pub well-formed : Malformed r c t certificate → ⊥
   pub unmet : (v : Verdict) (n : ℕ) → Accepts r c t certificate v n → ⊥
+
+-- ── "The checker gives 1 to 10, 13, 14; the comparer 1 to 12." ──
+
+-- the case that is named for refusal n of the comparer; of 11 and 12 the lower one counts
+unfoldable pub ComparerRefuses : Contest → List ℕ → List ℕ → List ℕ → ℕ → Type 0
+ComparerRefuses c file table buffer n =
+    TurnedBack n file
+    ⊎ IsRead file
+    × (((n ≡ 11) × TableTooSmall (c .rules) (taskOf file) table)
+    ⊎ (n ≡ 12) × (TableTooSmall (c .rules) (taskOf file) table → ⊥) × CertificateTooLong c (taskOf file) buffer)
+
+-- the case that is named for refusal n of the checker
+unfoldable pub CheckerRefuses : Contest → List ℕ → List ℕ → ℕ → Type 0
+CheckerRefuses c file certificate n =
+    TurnedBack n file
+    ⊎ IsRead file
+    × (((n ≡ 13) × Malformed maxRegisters c (taskOf file) certificate)
+    ⊎ (n ≡ 14) × NotAccepted maxRegisters c (taskOf file) certificate)

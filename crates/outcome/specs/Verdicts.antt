@@ -35,6 +35,10 @@ pub record Values : Type 0 where
   pub rounds : ℕ
   pub length : ℕ
 
+-- "its number and zeros"
+abbrev pub numberAndZeros : ℕ → Values
+numberAndZeros n = record { refusal = n; verdict = 0; positions = 0; rounds = 0; length = 0 }
+
 -- "A verdict returns positions reached, rounds (0 for EQUAL) and certificate length." "A refusal returns its number and zeros."
 abbrev pub valuesOf : Comparison → Values
 valuesOf (Decided v p n l) = record { refusal = 0; verdict = kindOf v; positions = p; rounds = n; length = l }

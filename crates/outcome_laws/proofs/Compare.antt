@@ -110,10 +110,10 @@ module _ (c : Contest) (t : Task) (table buffer : List ℕ) where
   -- ── Refusals 11 and 12, each in its case ──
 
   -- a verdict is no refusal
-  decided-not-refused : (positions length n : ℕ) (o : Option ℕ) → decided c positions o length ≡ Refused n → ⊥
+  decided-not-refused : (positions size n : ℕ) (o : Option ℕ) → decided c positions o size ≡ Refused n → ⊥
   unfolding decided
-  decided-not-refused positions length n none e = clash (cc)
-  decided-not-refused positions length n (some k) e = clash (cc)
+  decided-not-refused positions size n none e = clash (cc)
+  decided-not-refused positions size n (some k) e = clash (cc)
 
   -- both fill the table with zeros and leave the certificate buffer
   pub late-outcome : (n : ℕ) → compareTask c t table buffer .answer ≡ Refused n

@@ -1,1 +1,1 @@
-// Laws of the outcomes: theorems in proofs/, nothing to run.
+// Laws of the outcomes, in proofs/, with one definition of their own in specs/; nothing to run.

@@ -1,2 +1,2 @@
 pub mod Support
-pub mod Promises
+pub mod Kept

@@ -1,17 +1,13 @@
 -- What a verdict on a task's bytes says of the task that they hold. Assumes nothing.
 use Prim.Native.Nat.{ℕ, _≤_, _<_, _^_}
 use mathlib.Core.Path.{_≡_, refl, sym, _∙_, ap}
-use mathlib.Core.Logic.{_⊎_, inl, inr, ⊎-elim}
 use mathlib.Core.List.{List}
 use native.Mathlib.Omega.{arith}
 use lib.ListN.{length, take, drop}
 use lib.Seq.{take-at}
 use Rattle.fra.specs.Rules.{Rules}
-use Rattle.fra.specs.Game.{NeverLost, HasRank}
 use Rattle.fra.specs.Reach.{reached, rounds}
-use Rattle.fra.specs.Valid.{Valid}
 use Rattle.fra.specs.declared.Side.the-variants.{Left, Right}
-use Rattle.fra.specs.declared.Task.{Task}
 use Rattle.fra_laws.proofs.Tests.{clash}
 use Rattle.task.specs.TaskFile.{readTask, taskOf, maxRegisters}
 use Rattle.task.specs.declared.Answer.{Answer}
@@ -27,7 +23,6 @@ use Rattle.outcome.specs.declared.Comparison.the-variants.{Decided, Refused}
 use Rattle.fra_laws.proofs.LegalPositions.{most-positions}
 use Rattle.fra_laws.proofs.Reached.{reached-unique, reached-legal}
 use Rattle.task_laws.proofs.ReadValid.{read-valid, read-limits}
-use Rattle.outcome_laws.proofs.WrittenLists.{rounds-never, rounds-least}
 use Rattle.outcome_laws.proofs.Compare.{Says, verdict-says}
 
 -- ── From bytes to the task ──
@@ -59,19 +54,6 @@ module _ (c : Contest) (file table buffer : List ℕ) where
       by (Unread m) r =
           let d = ap (λ (o : Outcome). o .answer) (compared-unread m r) in
           clash (cc)
-
--- what a verdict says of the start: it is never lost, or it is lost within n rounds and not within fewer
-pub verdict-start : {r : ℕ} {t : Task} → Valid r t
-    → (c : Contest) {table buffer : List ℕ} {v : Verdict} {positions n size : ℕ} → Says c t table buffer v positions n size
-    → ((v ≡ c .kept) × NeverLost (c .rules) t (t .start))
-    ⊎ (v ≡ c .lost) × HasRank (c .rules) t (t .start) n × (n ≤ positions)
-verdict-start valid c says =
-    ⊎-elim (λ (e, never, z). inl (e, rounds-never valid (c .rules) .0 never))
-    (λ (e, lost).
-    let (rank, bound) = rounds-least valid (c .rules) _ lost in
-    let count = says .count in
-    inr (e, rank, omega arith))
-    (says .start)
 
 -- the part of the certificate buffer that a verdict's length names is the certificate
 pub written-part : (c : Contest) (file table buffer : List ℕ) {v : Verdict} {positions n size : ℕ}

@@ -1,1 +1,1 @@
-// What the product promises: theorems in proofs/Promises.antt, nothing to run.
+// What the product promises: specs/Promises.antt states it, proofs/Kept.antt shows it. Nothing to run.

@@ -1,5 +1,6 @@
 -- 01, "The task file": what a reader gives on any string of bytes.
 use Prim.Native.Nat.{ℕ, zero, suc, _+_, _-_, _^_}
+use mathlib.Core.Path.{_≡_}
 use mathlib.Core.Bool.{Bool, true, false, not, cond, _&&_, _||_}
 use mathlib.Core.List.{List, [], _∷_}
 use mathlib.Core.Option.{Option, none, some}
@@ -346,3 +347,7 @@ taskOf file = readTask file .task
 abbrev pub refusalOf : Answer → ℕ
 refusalOf Read = 0
 refusalOf (Refused n) = n
+
+-- a file of which no record is turned back, and that has an end
+abbrev pub IsRead : List ℕ → Type 0
+IsRead file = refusalOf (readTask file .answer) ≡ 0

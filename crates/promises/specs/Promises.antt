@@ -1,0 +1,171 @@
+-- What Nuldopa promises, in the order of the demands: each field below is a promise, with its sentence before it. They are
+-- stated for a game with its two verdicts (`Contest`), on what a call returns (its numbers) and on what
+-- it leaves in the bytes that it was lent. proofs/Kept.antt shows that they hold of `equality`, the comparison that the library
+-- makes, and that the functions which people call end on every input and return what is named here.
+use Prim.Native.Nat.{ℕ, _≤_, _<_}
+use mathlib.Core.Path.{_≡_}
+use mathlib.Core.Logic.{_⊎_, _↔_}
+use mathlib.Core.Bool.{true}
+use mathlib.Core.List.{List}
+use lib.ListN.{length, take}
+use Rattle.fra.specs.Game.{lostWithin, NeverLost, Bisimulation}
+use Rattle.fra.specs.Reach.{Reached}
+use Rattle.fra.specs.declared.Position.{Position}
+use Rattle.fra.specs.declared.Task.{Task}
+use Rattle.task.specs.TaskFile.{readTask, taskOf, refusalOf, IsRead, maxRegisters}
+use Rattle.task.specs.TaskBytes.{encodeTask, Writable}
+use Rattle.task.specs.Records.{TurnedBack}
+use Rattle.outcome.specs.Bytes.{Byte, values, cleared, thenZeros, thenRest}
+use Rattle.outcome.specs.Verdicts.{Contest, Values, kindOf, valuesOf, checkedValuesOf, numberAndZeros}
+use Rattle.outcome.specs.Compare.{compare}
+use Rattle.outcome.specs.Check.{check}
+use Rattle.outcome.specs.Conditions.{Accepts}
+use Rattle.outcome.specs.Listed.{Counted, TableHolds, KeptWritten, LossesWritten}
+use Rattle.outcome.specs.Refusals.{ComparerRefuses, CheckerRefuses}
+use Rattle.outcome.specs.declared.Verdict.{Verdict}
+use Rattle.numbers.specs.Numbers.{Setting, IsSetting, Opening, Choice, Reply, afterReply, Enough, LeastEnough}
+
+-- ── What is spoken of ──
+
+-- the numbers that a comparison returns
+abbrev pub returned : Contest → List ℕ → List ℕ → List ℕ → Values
+returned c file table buffer = valuesOf (compare c file table buffer .answer)
+
+-- the numbers that a check returns
+abbrev pub returnedByCheck : Contest → List ℕ → List ℕ → Values
+returnedByCheck c file certificate = checkedValuesOf (check c file certificate)
+
+-- a call returns this verdict
+abbrev pub Gives : Verdict → Values → Type 0
+Gives v r = (r .refusal ≡ 0) × (r .verdict ≡ kindOf v)
+
+-- ── Demand 1: "A verdict with its certificate, or one of the numbered refusals, comes back from every call on every input. Each
+-- refusal is given in the case named for it, and in no other. What it returns and what the lent table and certificate buffer then
+-- hold is fixed." ──
+
+pub record Demand1 (c : Contest) : Type 0 where
+  -- A file is turned back with n exactly in the case that is named for n.
+  pub reader-refuses-exactly : (file : List ℕ) (n : ℕ) → 0 < n → (refusalOf (readTask file .answer) ≡ n) ↔ TurnedBack n file
+  -- A file is read as a task exactly if it is the task's bytes and the task is one that a file can hold.
+  pub reader-reads-exactly : (file : List ℕ) (t : Task) → (IsRead file × (taskOf file ≡ t)) ↔ ((file ≡ encodeTask t) × Writable t)
+  -- Every comparison gives one of its two verdicts or a refusal.
+  pub comparer-answers : (file table buffer : List ℕ)
+      → Gives (c .kept) (returned c file table buffer)
+      ⊎ Gives (c .lost) (returned c file table buffer)
+      ⊎ (0 < returned c file table buffer .refusal)
+  -- It is refused with n exactly in the case that is named for n.
+  pub comparer-refuses-exactly : (file table buffer : List ℕ) (n : ℕ) → 0 < n
+      → (returned c file table buffer .refusal ≡ n) ↔ ComparerRefuses c file table buffer n
+  -- A refusal returns its number and zeros.
+  pub comparer-refusal-returns : (file table buffer : List ℕ) (n : ℕ) → 0 < n → returned c file table buffer .refusal ≡ n
+      → returned c file table buffer ≡ numberAndZeros n
+  -- A file that is turned back changes no buffer.
+  pub early-refusal-leaves : (file table buffer : List ℕ) (n : ℕ) → TurnedBack n file
+      → (compare c file table buffer .table ≡ table) × (compare c file table buffer .certificate ≡ buffer)
+  -- A refusal of a file that is read fills the table with zeros and leaves the certificate buffer.
+  pub late-refusal-leaves : (file table buffer : List ℕ) → IsRead file → 0 < returned c file table buffer .refusal
+      → (compare c file table buffer .table ≡ cleared table) × (compare c file table buffer .certificate ≡ buffer)
+  -- A verdict returns the number of positions reached.
+  pub verdict-counts : (file table buffer : List ℕ) → returned c file table buffer .refusal ≡ 0
+      → Counted (Reached (c .rules) (taskOf file)) (returned c file table buffer .positions)
+  -- It leaves the positions reached in the table, rising, each with the least rounds within which it is lost, or FF FF FF FF
+  -- where it is never lost; then zeros.
+  pub verdict-leaves-the-table : (file table buffer : List ℕ) → returned c file table buffer .refusal ≡ 0
+      → (written : List ℕ) × TableHolds (c .rules) (taskOf file) written
+      × (compare c file table buffer .table ≡ thenZeros written table)
+  -- The kept verdict has rounds 0, and leaves the reached positions never lost in the buffer, whose rest is unchanged.
+  pub kept-verdict-leaves-a-certificate : (file table buffer : List ℕ) → Gives (c .kept) (returned c file table buffer)
+      → (returned c file table buffer .rounds ≡ 0)
+      × (written : List ℕ) × KeptWritten c (taskOf file) written
+      × (returned c file table buffer .length ≡ length written)
+      × (compare c file table buffer .certificate ≡ thenRest written buffer)
+  -- The lost verdict leaves the start and what its attacks lead to, each with the first attack whose replies are all lost in
+  -- fewer rounds.
+  pub lost-verdict-leaves-a-certificate : (file table buffer : List ℕ) → Gives (c .lost) (returned c file table buffer)
+      → (written : List ℕ) × LossesWritten c (taskOf file) written
+      × (returned c file table buffer .length ≡ length written)
+      × (compare c file table buffer .certificate ≡ thenRest written buffer)
+  -- These sentences fix the bytes: no others meet them.
+  pub table-is-fixed : (t : Task) (one two : List ℕ) → TableHolds (c .rules) t one → TableHolds (c .rules) t two → one ≡ two
+  pub kept-certificate-is-fixed : (t : Task) (one two : List ℕ) → KeptWritten c t one → KeptWritten c t two → one ≡ two
+  pub lost-certificate-is-fixed : (t : Task) (one two : List ℕ) → LossesWritten c t one → LossesWritten c t two → one ≡ two
+  -- Every check gives one of the two verdicts or a refusal.
+  pub checker-answers : (file : List ℕ) (certificate : List Byte)
+      → Gives (c .kept) (returnedByCheck c file (values certificate))
+      ⊎ Gives (c .lost) (returnedByCheck c file (values certificate))
+      ⊎ (0 < returnedByCheck c file (values certificate) .refusal)
+  -- It is refused with n exactly in the case that is named for n.
+  pub checker-refuses-exactly : (file : List ℕ) (certificate : List Byte) (n : ℕ) → 0 < n
+      → (returnedByCheck c file (values certificate) .refusal ≡ n) ↔ CheckerRefuses c file (values certificate) n
+  -- A refusal returns its number and zeros.
+  pub checker-refusal-returns : (file certificate : List ℕ) (n : ℕ) → 0 < n → returnedByCheck c file certificate .refusal ≡ n
+      → returnedByCheck c file certificate ≡ numberAndZeros n
+
+-- ── Demand 2: "EQUAL means that a symbolic bisimulation of the two automata contains the start, and DIFFER means that there is
+-- none. The certificate checker accepts a proposed set or attack if it meets the published conditions, whoever wrote it, and only
+-- then; the comparer's own certificates are accepted." ──
+
+pub record Demand2 (c : Contest) : Type 1 where
+  -- The kept verdict is given where a symbolic bisimulation contains the start.
+  pub kept-means-bisimilar : (file table buffer : List ℕ) → Gives (c .kept) (returned c file table buffer)
+      → (R : Position → Type 0) × Bisimulation (c .rules) maxRegisters (taskOf file) R × R (taskOf file .start)
+  -- The lost verdict is given where none does, whatever set of positions one takes.
+  pub lost-means-not-bisimilar : (file table buffer : List ℕ) → Gives (c .lost) (returned c file table buffer)
+      → (R : Position → Type 0) → Bisimulation (c .rules) maxRegisters (taskOf file) R → R (taskOf file .start) → ⊥
+  -- The checker accepts exactly the bytes of rising lists of legal positions that meet the conditions of their kind.
+  pub accepted-exactly : (file : List ℕ) (certificate : List Byte) (v : Verdict) (n : ℕ)
+      → (Gives v (returnedByCheck c file (values certificate)) × (returnedByCheck c file (values certificate) .rounds ≡ n))
+      ↔ (IsRead file × Accepts maxRegisters c (taskOf file) (values certificate) v n)
+  -- What it accepts shows that the start is never lost, or that it is lost within the listed rounds.
+  pub accepted-shows : (file certificate : List ℕ) (v : Verdict) (n : ℕ)
+      → Accepts maxRegisters c (taskOf file) certificate v n
+      → ((v ≡ c .kept) × NeverLost (c .rules) (taskOf file) (taskOf file .start))
+      ⊎ (v ≡ c .lost) × (lostWithin (c .rules) (taskOf file) n (taskOf file .start) ≡ true)
+  -- The comparer's own certificate is accepted, with the comparer's verdict and rounds.
+  pub own-certificate-accepted : (file table buffer : List ℕ) → returned c file table buffer .refusal ≡ 0
+      → returnedByCheck c file (take (returned c file table buffer .length) (compare c file table buffer .certificate))
+      ≡ record {
+        refusal = 0;
+        verdict = returned c file table buffer .verdict;
+        positions = 0;
+        rounds = returned c file table buffer .rounds;
+        length = 0;
+      }
+
+-- ── Demand 3: "open both models with whatever actual object numbers one likes .. DIFFER in n rounds is given exactly when n is
+-- the least count that is enough. EQUAL is given exactly when no count is enough. And n never exceeds the reported count of
+-- positions reached." ──
+
+pub record Demand3 (c : Contest) : Type 0 where
+  -- A task that is read has an opening.
+  pub task-has-an-opening : (file : List ℕ) → IsRead file → (s : Setting) × Opening maxRegisters (taskOf file) s
+  -- A round leads from a setting to a setting.
+  pub round-leads-to-a-setting : (file : List ℕ) → IsRead file
+      → (s : Setting) → IsSetting (taskOf file) s
+      → (a : Choice (c .rules) (taskOf file) s) (k : ℕ) → Reply (c .rules) (taskOf file) s a k
+      → IsSetting (taskOf file) (afterReply (c .rules) (taskOf file) s a k)
+  -- The lost verdict in n rounds is given exactly where n is the least count that is enough.
+  pub lost-exactly : (file table buffer : List ℕ) → returned c file table buffer .refusal ≡ 0
+      → (s : Setting) → Opening maxRegisters (taskOf file) s
+      → (n : ℕ) → (Gives (c .lost) (returned c file table buffer) × (returned c file table buffer .rounds ≡ n))
+      ↔ LeastEnough (c .rules) (taskOf file) n s
+  -- The kept verdict is given exactly where no count is enough.
+  pub kept-exactly : (file table buffer : List ℕ) → returned c file table buffer .refusal ≡ 0
+      → (s : Setting) → Opening maxRegisters (taskOf file) s
+      → Gives (c .kept) (returned c file table buffer) ↔ ((n : ℕ) → Enough (c .rules) (taskOf file) n s → ⊥)
+  -- The rounds never exceed the count of positions reached,
+  pub rounds-within-positions : (file table buffer : List ℕ)
+      → returned c file table buffer .rounds ≤ returned c file table buffer .positions
+  -- which is at most 3,411,712.
+  pub positions-at-most : (file table buffer : List ℕ) → returned c file table buffer .positions ≤ 3411712
+  -- An accepted certificate, whoever wrote it, shows that no count is enough, or that the listed rounds are.
+  pub accepted-shows-of-numbers : (file : List ℕ) (certificate : List Byte)
+      → (s : Setting) → Opening maxRegisters (taskOf file) s
+      → (Gives (c .kept) (returnedByCheck c file (values certificate)) → (n : ℕ) → Enough (c .rules) (taskOf file) n s → ⊥)
+      × (Gives (c .lost) (returnedByCheck c file (values certificate))
+      → Enough (c .rules) (taskOf file) (returnedByCheck c file (values certificate) .rounds) s)
+
+pub record Promises (c : Contest) : Type 1 where
+  pub demand-1 : Demand1 c
+  pub demand-2 : Demand2 c
+  pub demand-3 : Demand3 c

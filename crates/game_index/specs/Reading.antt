@@ -14,7 +14,9 @@ use Rattle.fra.specs.declared.Position.{Position}
 use Rattle.fra.specs.declared.Task.{Task}
 use Rattle.fra.specs.declared.Side.{Side}
 use Rattle.fra.specs.declared.Side.the-variants.{Left, Right}
-use Rattle.game_index.specs.Layout.{registersAt, beginAt, stateCountAt, edgeCountAt, statesAt, statePlaces, stateWidth, edgesAt, edgePlaces, edgeWidth, sideWidth, startAt, attacksAt, losesAt, tagField, kindField, registerField, toField}
+use Rattle.game_index.specs.Layout.{registersAt, beginAt, stateCountAt, edgeCountAt, statesAt, statePlaces, stateWidth}
+use Rattle.game_index.specs.Layout.{edgesAt, edgePlaces, edgeWidth, tagField, kindField, registerField, toField}
+use Rattle.game_index.specs.Layout.{sideWidth, startAt, attacksAt, losesAt}
 
 -- byte i of a side
 abbrev pub sideByte : List ℕ → Side → ℕ → ℕ

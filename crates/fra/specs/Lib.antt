@@ -7,3 +7,4 @@ pub mod Position
 pub mod Game
 pub mod Reach
 pub mod Valid
+pub mod Exchange

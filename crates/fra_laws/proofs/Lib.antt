@@ -18,3 +18,5 @@ pub mod Lost
 pub mod Ranks
 pub mod Bisimulation
 pub mod Successors
+pub mod Weaker
+pub mod ReachedAlike

@@ -15,7 +15,7 @@ module _ {A : Type 0} (f : ℕ → A) where
   pub places-length : (n : ℕ) → length (map f (count 0 n)) ≡ n
   places-length n = length-map (count 0 n) f ∙ count-length 0 n
 
-  places-from : (k n i : ℕ) (z : A) → i < n → getD (map f (count k n)) i z ≡ f (k + i)
+  pub places-from : (k n i : ℕ) (z : A) → i < n → getD (map f (count k n)) i z ≡ f (k + i)
   unfolding count
   places-from k zero i z h = absurd (omega arith)
   places-from k (suc n) zero z h = rw add-zero

@@ -20,3 +20,7 @@ pub mod Bisimulation
 pub mod Successors
 pub mod Weaker
 pub mod ReachedAlike
+pub mod ExchangeMatchings
+pub mod ExchangePositions
+pub mod ExchangeRounds
+pub mod ExchangeLost

@@ -2,3 +2,4 @@
 pub mod TaskFile
 pub mod Records
 pub mod TaskBytes
+pub mod ExchangedFile

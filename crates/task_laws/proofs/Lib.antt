@@ -14,3 +14,5 @@ pub mod RecordSteps
 pub mod FileRefusals
 pub mod WritableRead
 pub mod ReadExactly
+pub mod ReadAnswers
+pub mod ExchangedFile

@@ -1,7 +1,7 @@
 -- Positions and tasks with the sides exchanged: legal positions are turned to legal ones, partners are the same seen from the
 -- other side, and turning twice changes nothing. For any rules and register count. Assumes nothing.
 use Prim.Native.Nat.{ℕ, zero, suc, _≤_, _<_}
-use mathlib.Core.Path.{_≡_, refl, sym, _∙_}
+use mathlib.Core.Path.{_≡_, refl, sym, _∙_, ap}
 use mathlib.Core.Bool.{true}
 use native.Mathlib.Omega.{arith}
 use lib.ListN.{length}
@@ -15,6 +15,7 @@ use Rattle.fra.specs.declared.Side.{Side}
 use Rattle.fra.specs.declared.Side.the-variants.{Left, Right}
 use Rattle.fra_laws.proofs.Legal.{registers-exist, Legal, legal-facts, legal-intro}
 use Rattle.fra_laws.proofs.Successors.{other-other}
+use Rattle.fra_laws.proofs.Weaker.{same-rules}
 use Rattle.fra_laws.proofs.ExchangeMatchings.{Turned, turned-one-way, turned-matching, turned-partner}
 use Rattle.fra_laws.proofs.ExchangeMatchings.{turned-length, turned-from, turned-round}
 
@@ -94,4 +95,5 @@ exchanged-twice {t = t} valid =
     λ i. record { left = t .left; right = t .right; start = same i }
 
 pub mirrored-twice : (g : Rules) → mirroredRules (mirroredRules g) ≡ g
-mirrored-twice g = λ i. record { attacks = λ s. g .attacks (other-other s i); lost = g .lost }
+mirrored-twice g =
+    same-rules (mirroredRules (mirroredRules g)) g (λ s. ap (g .attacks) (other-other s)) (λ l r. refl)

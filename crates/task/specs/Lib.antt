@@ -1,4 +1,5 @@
--- The definitions of 01, "The task file", and refusals 1 to 10 of "Turned back, in checking order".
+-- The definitions of 01, "The task file", and refusals 1 to 10 of "Turned back, in checking order"; then the
+-- file with the sides exchanged, of 02.
 pub mod TaskFile
 pub mod Records
 pub mod TaskBytes

@@ -14,8 +14,8 @@ use Rattle.fra.specs.declared.Position.{Position}
 use Rattle.fra.specs.declared.Attack.{Attack}
 use Rattle.outcome.specs.Certificate.{Loss}
 use Rattle.outcome.specs.Check.{same, holds, forces}
-use Rattle.outcome.specs.declared.Verdict.{Verdict}
-use Rattle.outcome.specs.declared.Verdict.the-variants.{Equal, Differ}
+use Rattle.outcome.specs.declared.Standing.{Standing}
+use Rattle.outcome.specs.declared.Standing.the-variants.{Kept, Lost}
 use Rattle.listing.specs.Lookup.{placeOf}
 use Rattle.listing.specs.declared.Place.{Place}
 use Rattle.listing.specs.declared.Place.the-variants.{At, Nowhere}
@@ -37,34 +37,34 @@ use Rattle.checker_acceptance.specs.RecordTests.{Testable}
 use Rattle.checker_acceptance.proofs.HoldsUnlessWon.{holds-unless-won, forces-if-won}
 
 -- the judge by a certificate's records
-abbrev pub judgeOf : Verdict → List ℕ → Test → Judge
+abbrev pub judgeOf : Standing → List ℕ → Test → Judge
 judgeOf v l test = record { records = recordsOf v (length l); test = test }
 
 -- what it judges lost
-abbrev pub lostBy : List ℕ → Verdict → List ℕ → Test → Position → Bool
+abbrev pub lostBy : List ℕ → Standing → List ℕ → Test → Position → Bool
 lostBy pairs v l test = judgedAmong pairs l (judgeOf v l test)
 
 module _ {b l pairs : List ℕ} where
   -- ── Kept positions ──
 
-  module _ (h : Testable Equal b l pairs) where
-    unlisted-lost : (q : Position) → lostBy pairs Equal l Unlisted q ≡ not (any (same q) (keptIn l))
+  module _ (h : Testable Kept b l pairs) where
+    unlisted-lost : (q : Position) → lostBy pairs Kept l Unlisted q ≡ not (any (same q) (keptIn l))
     unfolding judged
     unlisted-lost q =
         rw (h .every)
-        (among-all l (judgeOf Equal l Unlisted) q ∙ at (placeOf q (keptIn l)) ∙ ap not (sym (position-listed q (keptIn l))))
+        (among-all l (judgeOf Kept l Unlisted) q ∙ at (placeOf q (keptIn l)) ∙ ap not (sym (position-listed q (keptIn l))))
       where
-        at : (o : Place) → lostAt l (recordsOf Equal (length l)) Unlisted o ≡ not (isFound o)
+        at : (o : Place) → lostAt l (recordsOf Kept (length l)) Unlisted o ≡ not (isFound o)
         at (At i) = refl
         at Nowhere = refl
 
     module _ (p : Position) (e : lostAtOnce (rulesIn b) (taskIn b) p ≡ false) where
       abbrev won : Option Attack
-      won = winner (rulesIn b) (taskIn b) (lostBy pairs Equal l Unlisted) p
+      won = winner (rulesIn b) (taskIn b) (lostBy pairs Kept l Unlisted) p
 
       kept-by-winner : holds (rulesIn b) (taskIn b) (keptIn l) p ≡ not (isWon won)
       kept-by-winner =
-          holds-unless-won (rulesIn b) (taskIn b) (lostBy pairs Equal l Unlisted) (keptIn l) unlisted-lost p ∙ rw e
+          holds-unless-won (rulesIn b) (taskIn b) (lostBy pairs Kept l Unlisted) (keptIn l) unlisted-lost p ∙ rw e
 
       pub kept-won : {a : Attack} → winOf won ≡ By a → holds (rulesIn b) (taskIn b) (keptIn l) p ≡ false
       kept-won f = kept-by-winner ∙ rw (winner-some won f)
@@ -74,23 +74,23 @@ module _ {b l pairs : List ℕ} where
 
   -- ── Losses ──
 
-  module _ (h : Testable Differ b l pairs) where
+  module _ (h : Testable Lost b l pairs) where
     sooner-lost : (n : ℕ) (q : Position)
-        → lostBy pairs Differ l (Sooner n) q ≡ any (λ x. same q (x .position) && ltb (x .rounds) n) (lossesIn l)
+        → lostBy pairs Lost l (Sooner n) q ≡ any (λ x. same q (x .position) && ltb (x .rounds) n) (lossesIn l)
     unfolding judged
     sooner-lost n q =
         rw (h .every)
-        (among-all l (judgeOf Differ l (Sooner n)) q ∙ at (placeOf q (lostIn l)) ∙ sym (loss-sooner l (h .searchable) q n))
+        (among-all l (judgeOf Lost l (Sooner n)) q ∙ at (placeOf q (lostIn l)) ∙ sym (loss-sooner l (h .searchable) q n))
       where
-        at : (o : Place) → lostAt l (recordsOf Differ (length l)) (Sooner n) o ≡ soonerFound l n o
+        at : (o : Place) → lostAt l (recordsOf Lost (length l)) (Sooner n) o ≡ soonerFound l n o
         at (At i) = refl
         at Nowhere = refl
 
     pub loss-settled : (x : Loss) (a : Attack)
         → forces (rulesIn b) (taskIn b) (lossesIn l) x (some a)
         ≡ (isAttack (rulesIn b) (taskIn b) (x .position) a
-        && settles (lostBy pairs Differ l (Sooner (x .rounds))) b (x .position) (challengeOf (taskIn b) (x .position) a))
+        && settles (lostBy pairs Lost l (Sooner (x .rounds))) b (x .position) (challengeOf (taskIn b) (x .position) a))
     loss-settled x a =
-        let lost = lostBy pairs Differ l (Sooner (x .rounds)) in
+        let lost = lostBy pairs Lost l (Sooner (x .rounds)) in
         rw (settles-wins lost b (x .position) (h .index) a)
         (forces-if-won (rulesIn b) (taskIn b) lost (lossesIn l) x (sooner-lost (x .rounds)) a)

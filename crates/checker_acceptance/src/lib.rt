@@ -1,5 +1,5 @@
 // Acceptance of a well-formed list: of kept positions, each of whose attacks must have a reply that leads to a listed one, or of
-// losses, whose attacks must lead to listed positions of fewer rounds alone; with the start among them. The verdict says which of
+// losses, whose attacks must lead to listed positions of fewer rounds alone; with the start among them. The standing says which of
 // the two it is.
 use checker_attacks::AttackNamed;
 use checker_attacks::attack_named;
@@ -19,14 +19,14 @@ use listing::Place;
 use listing::find;
 use listing::position_at;
 use listing::rounds_at;
-use outcome::Verdict;
+use outcome::Standing;
 use outcome::layout;
 ghost use Prim.Native.Nat.{_<_};
 ghost use mathlib.Core.Path.{_≡_};
 ghost use mathlib.Core.Option.{some};
 ghost use lib.ListN.{length};
 ghost use Rattle.outcome.specs.Check.{holds, forces, lossHolds};
-ghost use Rattle.outcome.specs.declared.Verdict.the-variants.{Equal, Differ};
+ghost use Rattle.outcome.specs.declared.Standing.the-variants.{Kept, Lost};
 ghost use Rattle.listing.specs.Listing.{Searchable};
 ghost use Rattle.game_index.specs.Reading.{taskIn, rulesIn};
 ghost use Rattle.game_index.specs.Writing.{Index};
@@ -44,12 +44,12 @@ pub struct Claim {
 }
 
 // The whole records of a certificate of this length.
-pub fn records_of(verdict: Verdict, length: usize) -> Listing
-    ensures { λ r. ⌜ r ≡ recordsOf verdict length ⌝ }
+pub fn records_of(standing: Standing, length: usize) -> Listing
+    ensures { λ r. ⌜ r ≡ recordsOf standing length ⌝ }
 {
-    match verdict {
-        Verdict::Equal => Listing::of_kept(length / layout::KEPT_WIDTH),
-        Verdict::Differ => Listing::of_lost(length / layout::LOST_WIDTH),
+    match standing {
+        Standing::Kept => Listing::of_kept(length / layout::KEPT_WIDTH),
+        Standing::Lost => Listing::of_lost(length / layout::LOST_WIDTH),
     }
 }
 
@@ -57,13 +57,13 @@ pub fn records_of(verdict: Verdict, length: usize) -> Listing
 
 // A kept position holds: its end marks do not lose, and no attack has only replies that lead to positions which are not listed.
 fn kept_holds(index: &[u8; SIZE], certificate: &[u8], pairs: &[u8; PAIRS], p: Position) -> bool
-    requires { ⌜ Testable Equal (now index) (now certificate) (now pairs) ⌝ }
+    requires { ⌜ Testable Kept (now index) (now certificate) (now pairs) ⌝ }
     ensures { λ r. ⌜ r ≡ holds (rulesIn (now (index .entry))) (taskIn (now (index .entry))) (keptIn (now (certificate .entry))) p ⌝ }
 {
     if game_index::lost_at_once(index, p) {
         return false;
     }
-    let records = records_of(Verdict::Equal, certificate.len());
+    let records = records_of(Standing::Kept, certificate.len());
     let test = Test::Unlisted;
     let win = first_win(certificate, Judge { records, test }, pairs, index, p);
     let Win::By(_) = win else {
@@ -76,10 +76,10 @@ fn kept_holds(index: &[u8; SIZE], certificate: &[u8], pairs: &[u8; PAIRS], p: Po
 
 // What record i of a list of losses claims.
 fn claim_at(certificate: &[u8], i: usize) -> Claim
-    requires { ⌜ i < recordsOf Differ (length (now certificate)) .count ⌝ }
+    requires { ⌜ i < recordsOf Lost (length (now certificate)) .count ⌝ }
     ensures { λ r. ⌜ lossOf r ≡ lossAt (now (certificate .entry)) i ⌝ }
 {
-    let records = records_of(Verdict::Differ, certificate.len());
+    let records = records_of(Standing::Lost, certificate.len());
     let at = i * layout::LOST_WIDTH;
     let position = position_at(certificate, records, i);
     Claim {
@@ -93,14 +93,14 @@ fn claim_at(certificate: &[u8], i: usize) -> Claim
 
 // The attack exists, and every reply leads to a listed position of fewer rounds than the record has.
 fn forces(index: &[u8; SIZE], certificate: &[u8], pairs: &[u8; PAIRS], x: Claim, a: Attack) -> bool
-    requires { ⌜ Testable Differ (now index) (now certificate) (now pairs) ⌝ }
+    requires { ⌜ Testable Lost (now index) (now certificate) (now pairs) ⌝ }
     ensures { λ r. ⌜ r ≡ forces (rulesIn (now (index .entry))) (taskIn (now (index .entry))) (lossesIn (now (certificate .entry))) (lossOf x) (some a) ⌝ }
 {
     let p = x.position;
     if !is_attack(index, p, a) {
         return false;
     }
-    let records = records_of(Verdict::Differ, certificate.len());
+    let records = records_of(Standing::Lost, certificate.len());
     let test = Test::Sooner(x.rounds);
     let challenge = Challenge::of(index, p, a);
     settled(
@@ -126,7 +126,7 @@ fn lost_already(index: &[u8; SIZE], x: Claim) -> bool
 
 // A record of a lost position holds.
 fn loss_holds(index: &[u8; SIZE], certificate: &[u8], pairs: &[u8; PAIRS], x: Claim) -> bool
-    requires { ⌜ Testable Differ (now index) (now certificate) (now pairs) ⌝ }
+    requires { ⌜ Testable Lost (now index) (now certificate) (now pairs) ⌝ }
     ensures { λ r. ⌜ r ≡ lossHolds (rulesIn (now (index .entry))) (taskIn (now (index .entry))) (lossesIn (now (certificate .entry))) (lossOf x) ⌝ }
 {
     if x.rounds == 0 {
@@ -146,16 +146,16 @@ fn record_holds(
     index: &[u8; SIZE],
     certificate: &[u8],
     pairs: &[u8; PAIRS],
-    verdict: Verdict,
+    standing: Standing,
     i: usize,
 ) -> bool
-    requires { ⌜ Testable verdict (now index) (now certificate) (now pairs) ⌝ }
-    requires { ⌜ i < recordsOf verdict (length (now certificate)) .count ⌝ }
-    ensures { λ r. ⌜ r ≡ recordHolds (rulesIn (now (index .entry))) (taskIn (now (index .entry))) verdict (now (certificate .entry)) i ⌝ }
+    requires { ⌜ Testable standing (now index) (now certificate) (now pairs) ⌝ }
+    requires { ⌜ i < recordsOf standing (length (now certificate)) .count ⌝ }
+    ensures { λ r. ⌜ r ≡ recordHolds (rulesIn (now (index .entry))) (taskIn (now (index .entry))) standing (now (certificate .entry)) i ⌝ }
 {
-    match verdict {
-        Verdict::Equal => {
-            let records = records_of(Verdict::Equal, certificate.len());
+    match standing {
+        Standing::Kept => {
+            let records = records_of(Standing::Kept, certificate.len());
             kept_holds(
                 index,
                 certificate,
@@ -163,17 +163,17 @@ fn record_holds(
                 position_at(certificate, records, i),
             )
         }
-        Verdict::Differ => loss_holds(index, certificate, pairs, claim_at(certificate, i)),
+        Standing::Lost => loss_holds(index, certificate, pairs, claim_at(certificate, i)),
     }
 }
 
 // The list is accepted: the start is listed, and every record holds.
-pub fn accepted(index: &[u8; SIZE], certificate: &[u8], verdict: Verdict) -> bool
+pub fn accepted(index: &[u8; SIZE], certificate: &[u8], standing: Standing) -> bool
     requires { ⌜ Index (now index) ⌝ }
-    requires { ⌜ Searchable (recordsOf verdict (length (now certificate))) (now certificate) ⌝ }
-    ensures { λ r. ⌜ r ≡ acceptedBy (rulesIn (now (index .entry))) (taskIn (now (index .entry))) verdict (now (certificate .entry)) ⌝ }
+    requires { ⌜ Searchable (recordsOf standing (length (now certificate))) (now certificate) ⌝ }
+    ensures { λ r. ⌜ r ≡ acceptedBy (rulesIn (now (index .entry))) (taskIn (now (index .entry))) standing (now (certificate .entry)) ⌝ }
 {
-    let records = records_of(verdict, certificate.len());
+    let records = records_of(standing, certificate.len());
     let place = find(certificate, records, game_index::start(index));
     let Place::At(_) = place else {
         return false;
@@ -181,7 +181,7 @@ pub fn accepted(index: &[u8; SIZE], certificate: &[u8], verdict: Verdict) -> boo
     let pairs = game_state_pairs::ALL;
     let mut i: usize = 0;
     while i < records.count {
-        if !record_holds(index, certificate, &pairs, verdict, i) {
+        if !record_holds(index, certificate, &pairs, standing, i) {
             return false;
         }
         i += 1;
@@ -190,14 +190,14 @@ pub fn accepted(index: &[u8; SIZE], certificate: &[u8], verdict: Verdict) -> boo
 }
 
 // The rounds that acceptance returns: those that the start is listed with, 0 for kept positions.
-pub fn start_rounds(index: &[u8; SIZE], certificate: &[u8], verdict: Verdict) -> u32
-    requires { ⌜ Searchable (recordsOf verdict (length (now certificate))) (now certificate) ⌝ }
-    ensures { λ r. ⌜ r ≡ roundsBy (taskIn (now (index .entry))) verdict (now (certificate .entry)) ⌝ }
+pub fn start_rounds(index: &[u8; SIZE], certificate: &[u8], standing: Standing) -> u32
+    requires { ⌜ Searchable (recordsOf standing (length (now certificate))) (now certificate) ⌝ }
+    ensures { λ r. ⌜ r ≡ roundsBy (taskIn (now (index .entry))) standing (now (certificate .entry)) ⌝ }
 {
-    let Verdict::Differ = verdict else {
+    let Standing::Lost = standing else {
         return 0;
     };
-    let records = records_of(Verdict::Differ, certificate.len());
+    let records = records_of(Standing::Lost, certificate.len());
     let place = find(certificate, records, game_index::start(index));
     let Place::At(i) = place else {
         return 0;

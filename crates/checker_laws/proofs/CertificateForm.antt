@@ -19,8 +19,8 @@ use Rattle.fra_laws.proofs.Tests.{and-left, and-right, and-intro, fails-unless}
 use Rattle.fra_laws.proofs.Lists.{all-at, all-intro, all-same, all-map, count-intro, count-elim}
 use Rattle.outcome.specs.Check.{rising, orderly}
 use Rattle.outcome.specs.Refusals.{records}
-use Rattle.outcome.specs.declared.Verdict.{Verdict}
-use Rattle.outcome.specs.declared.Verdict.the-variants.{Equal, Differ}
+use Rattle.outcome.specs.declared.Standing.{Standing}
+use Rattle.outcome.specs.declared.Standing.the-variants.{Kept, Lost}
 use Rattle.outcome_laws.proofs.Bodies.{Whole, Stops}
 use Rattle.outcome_laws.proofs.Orderly.{orderly-passes}
 use Rattle.listing.specs.Listing.{positionAt, positionsIn, Fitting, Searchable}
@@ -41,9 +41,9 @@ all-both f g (x ∷ l) = rw (all-both f g l) (exchange (f x) (g x) (all f l) (al
     exchange false b c d = refl
 
 -- the whole records of a certificate have room for their positions and rounds
-pub records-fit : (v : Verdict) (l : List ℕ) → Fitting (recordsOf v (length l)) l
-records-fit Equal l = record { room = omega arith; position = omega arith; rounds = omega arith }
-records-fit Differ l = record { room = omega arith; position = omega arith; rounds = omega arith }
+pub records-fit : (s : Standing) (l : List ℕ) → Fitting (recordsOf s (length l)) l
+records-fit Kept l = record { room = omega arith; position = omega arith; rounds = omega arith }
+records-fit Lost l = record { room = omega arith; position = omega arith; rounds = omega arith }
 
 -- ── Place by place ──
 

@@ -1,6 +1,6 @@
 -- The checker's answer to a certificate, by its first byte, is that from the records by their places. Assumes nothing.
 use Prim.Native.Nat.{ℕ, suc, _<_}
-use mathlib.Core.Path.{_≡_, refl}
+use mathlib.Core.Path.{_≡_, refl, sym, _∙_}
 use mathlib.Core.Logic.{_≢_}
 use mathlib.Core.Bool.{false}
 use mathlib.Core.List.{List, [], _∷_, map-map}
@@ -8,16 +8,16 @@ use mathlib.Core.Option.{Option, none, some}
 use native.Mathlib.Omega.{arith}
 use lib.ListN.{length, getD}
 use borrow.Author.Tests.{eq-eqb, ne-eqb}
-use Rattle.fra.specs.Rules.{Rules}
 use Rattle.fra.specs.declared.Task.{Task}
+use Rattle.fra.specs.declared.Game.{Game}
+use Rattle.fra.specs.declared.Game.the-variants.{BothAttack, LeftAttacks}
 use Rattle.outcome.specs.Certificate.{Loss}
 use Rattle.outcome.specs.Check.{lossFrom, bodies, judgeList, checkKept, checkLosses, checkTask}
 use Rattle.outcome.specs.Refusals.{records}
-use Rattle.outcome.specs.Verdicts.{kindOf}
+use Rattle.outcome.specs.Verdicts.{contestOf, verdictOf, kindOf}
 use Rattle.outcome.specs.declared.Check.the-variants.{Refused}
-use Rattle.outcome.specs.declared.Verdict.the-variants.{Equal, Differ}
+use Rattle.outcome.specs.declared.Standing.the-variants.{Kept, Lost}
 use Rattle.outcome_laws.proofs.Bodies.{Whole, bodies-some, bodies-none}
-use Rattle.outcome_laws.specs.Contests.{contestOf}
 use Rattle.listing.specs.Widths.{lostRounds}
 use Rattle.checker_laws.specs.CertificateRecords.{formed}
 use Rattle.checker_laws.specs.CheckAnswers.{listAnswer}
@@ -38,54 +38,58 @@ splits t kind size rounds l = step (bodies kind size (suc (length l)) l) refl
         let (bs, b, rest, w, f, s) = bodies-none kind size (suc (length l)) l (omega arith) e in
         broken (rw f (formed-stops t kind size rounds bs w b rest s))
 
-module _ (g : Rules) (t : Task) (l : List ℕ) where
-  kept-answer : (o : Option (List (List ℕ))) → Splits t (kindOf Equal) 8 0 l o
-      → checkKept 6 (contestOf g) t o ≡ listAnswer g t Equal l
+module _ (g : Game) (t : Task) (l : List ℕ) where
+  kept-answer : (o : Option (List (List ℕ))) → Splits t (kindOf (verdictOf g Kept)) 8 0 l o
+      → checkKept 6 (contestOf g) t o ≡ listAnswer g t Kept l
   unfolding checkKept judgeList
   kept-answer o (whole bs w e) =
-      rw (e, formed-whole t (kindOf Equal) 8 0 bs w, positions-read (kindOf Equal) 8 bs w 0 (omega arith))
+      rw (e, formed-whole t (kindOf (verdictOf g Kept)) 8 0 bs w, positions-read (kindOf (verdictOf g Kept)) 8 bs w 0 (omega arith))
   kept-answer o (broken e) = rw e
 
-  loss-answer : (o : Option (List (List ℕ))) → Splits t (kindOf Differ) 15 lostRounds l o
-      → checkLosses 6 (contestOf g) t o ≡ listAnswer g t Differ l
+  loss-answer : (o : Option (List (List ℕ))) → Splits t (kindOf (verdictOf g Lost)) 15 lostRounds l o
+      → checkLosses 6 (contestOf g) t o ≡ listAnswer g t Lost l
   unfolding checkLosses judgeList lossFrom
   loss-answer o (whole bs w e) =
       rw (
         e,
-        formed-whole t (kindOf Differ) 15 lostRounds bs w,
-        positions-read (kindOf Differ) 15 bs w lostRounds (omega arith),
-        losses-read (kindOf Differ) bs w,
+        formed-whole t (kindOf (verdictOf g Lost)) 15 lostRounds bs w,
+        positions-read (kindOf (verdictOf g Lost)) 15 bs w lostRounds (omega arith),
+        losses-read (kindOf (verdictOf g Lost)) bs w,
         map-map (λ (x : Loss). x .position) (lossFrom 6) bs,
       )
   loss-answer o (broken e) = rw e
 
 -- ── By the first byte ──
 
-module _ (g : Rules) (t : Task) where
+kinds-apart : (g : Game) → kindOf (verdictOf g Kept) ≢ kindOf (verdictOf g Lost)
+kinds-apart BothAttack e = omega arith
+kinds-apart LeftAttacks e = omega arith
+
+module _ (g : Game) (t : Task) where
   pub answer-empty : (l : List ℕ) → length l ≡ 0 → checkTask 6 (contestOf g) t l ≡ Refused 14
   unfolding checkTask
   answer-empty [] e = refl
   answer-empty (b ∷ l) e = absurd (omega arith)
 
-  pub answer-kept : (l : List ℕ) → 0 < length l → getD l 0 0 ≡ kindOf Equal
-      → checkTask 6 (contestOf g) t l ≡ listAnswer g t Equal l
+  pub answer-kept : (l : List ℕ) → 0 < length l → getD l 0 0 ≡ kindOf (verdictOf g Kept)
+      → checkTask 6 (contestOf g) t l ≡ listAnswer g t Kept l
   unfolding checkTask
   answer-kept [] p e = absurd (omega arith)
   answer-kept (b ∷ l) p e =
-      let k = kindOf Equal in
+      let k = kindOf (verdictOf g Kept) in
       rw (eq-eqb b k e, checkTask, e) (kept-answer g t (k ∷ l) _ (splits t k 8 0 (k ∷ l)))
 
-  pub answer-lost : (l : List ℕ) → 0 < length l → getD l 0 0 ≡ kindOf Differ
-      → checkTask 6 (contestOf g) t l ≡ listAnswer g t Differ l
+  pub answer-lost : (l : List ℕ) → 0 < length l → getD l 0 0 ≡ kindOf (verdictOf g Lost)
+      → checkTask 6 (contestOf g) t l ≡ listAnswer g t Lost l
   unfolding checkTask
   answer-lost [] p e = absurd (omega arith)
   answer-lost (b ∷ l) p e =
-      let k = kindOf Differ in
-      rw (ne-eqb b (kindOf Equal) (omega arith), eq-eqb b k e, checkTask, e)
+      let k = kindOf (verdictOf g Lost) in
+      rw (ne-eqb b (kindOf (verdictOf g Kept)) (λ f. kinds-apart g (sym f ∙ e)), eq-eqb b k e, checkTask, e)
       (loss-answer g t (k ∷ l) _ (splits t k 15 lostRounds (k ∷ l)))
 
-  pub answer-unknown : (l : List ℕ) → 0 < length l → getD l 0 0 ≢ kindOf Equal → getD l 0 0 ≢ kindOf Differ
+  pub answer-unknown : (l : List ℕ) → 0 < length l → getD l 0 0 ≢ kindOf (verdictOf g Kept) → getD l 0 0 ≢ kindOf (verdictOf g Lost)
       → checkTask 6 (contestOf g) t l ≡ Refused 13
   unfolding checkTask
   answer-unknown [] p e d = absurd (omega arith)
-  answer-unknown (b ∷ l) p e d = rw (ne-eqb b (kindOf Equal) e, ne-eqb b (kindOf Differ) d, checkTask)
+  answer-unknown (b ∷ l) p e d = rw (ne-eqb b (kindOf (verdictOf g Kept)) e, ne-eqb b (kindOf (verdictOf g Lost)) d, checkTask)

@@ -16,8 +16,8 @@ use Rattle.fra_laws.proofs.Lists.{any-witness, all-map}
 use Rattle.fra_laws.proofs.Order.{before-irreflexive}
 use Rattle.outcome.specs.Certificate.{Loss}
 use Rattle.outcome.specs.Check.{same, holds, keptAccepted, lossHolds, lossesAccepted, startRounds}
-use Rattle.outcome.specs.declared.Verdict.{Verdict}
-use Rattle.outcome.specs.declared.Verdict.the-variants.{Equal, Differ}
+use Rattle.outcome.specs.declared.Standing.{Standing}
+use Rattle.outcome.specs.declared.Standing.the-variants.{Kept, Lost}
 use Rattle.outcome_laws.proofs.Accepted.{same-passes}
 use Rattle.listing.specs.Listing.{positionAt, roundsAt, positionsIn, Searchable}
 use Rattle.listing.specs.Lookup.{placeFrom, placeOf}
@@ -54,34 +54,34 @@ position-listed p l = from 0 l
 
 -- their positions
 abbrev pub lostIn : List ℕ → List Position
-lostIn l = positionsIn (recordsOf Differ (length l)) l
+lostIn l = positionsIn (recordsOf Lost (length l)) l
 
 -- the rounds that stand at a place
 abbrev pub roundsFound : List ℕ → Place → ℕ
-roundsFound l (At i) = roundsAt (recordsOf Differ (length l)) l i
+roundsFound l (At i) = roundsAt (recordsOf Lost (length l)) l i
 roundsFound l Nowhere = 0
 
 -- fewer than n
 abbrev pub soonerFound : List ℕ → ℕ → Place → Bool
-soonerFound l n (At i) = ltb (roundsAt (recordsOf Differ (length l)) l i) n
+soonerFound l n (At i) = ltb (roundsAt (recordsOf Lost (length l)) l i) n
 soonerFound l n Nowhere = false
 
 module _ (l : List ℕ) where
   -- the positions of the losses from record k on
   abbrev positionsFrom : ℕ → ℕ → List Position
-  positionsFrom k n = map (positionAt (recordsOf Differ (length l)) l) (count k n)
+  positionsFrom k n = map (positionAt (recordsOf Lost (length l)) l) (count k n)
 
   pub loss-listed : (p : Position) → any (λ x. same p (x .position)) (lossesIn l) ≡ isFound (placeOf p (lostIn l))
   unfolding lossesIn positionsIn lossAt
   loss-listed p =
-      let c = count 0 (recordsOf Differ (length l) .count) in
+      let c = count 0 (recordsOf Lost (length l) .count) in
       any-map (λ (x : Loss). same p (x .position)) (lossAt l) c
-      ∙ sym (any-map (same p) (positionAt (recordsOf Differ (length l)) l) c)
+      ∙ sym (any-map (same p) (positionAt (recordsOf Lost (length l)) l) c)
       ∙ position-listed p (lostIn l)
 
   pub start-rounds : (t : Task) → startRounds t (lossesIn l) ≡ roundsFound l (placeOf (t .start) (lostIn l))
   unfolding lossesIn positionsIn startRounds placeFrom count lossAt
-  start-rounds t = from 0 (recordsOf Differ (length l) .count)
+  start-rounds t = from 0 (recordsOf Lost (length l) .count)
     where
       from : (k n : ℕ) → startRounds t (map (lossAt l) (count k n)) ≡ roundsFound l (placeFrom k (t .start) (positionsFrom k n))
       from k zero = refl
@@ -96,10 +96,10 @@ module _ (l : List ℕ) where
           step false e rest = rw (e, startRounds, placeFrom) rest
 
   -- no position is listed twice
-  pub loss-sooner : Searchable (recordsOf Differ (length l)) l → (p : Position) (n : ℕ)
+  pub loss-sooner : Searchable (recordsOf Lost (length l)) l → (p : Position) (n : ℕ)
       → any (λ x. same p (x .position) && ltb (x .rounds) n) (lossesIn l) ≡ soonerFound l n (placeOf p (lostIn l))
   unfolding lossesIn positionsIn any placeFrom count lossAt
-  loss-sooner listed p n = from 0 (recordsOf Differ (length l) .count) (listed .rising)
+  loss-sooner listed p n = from 0 (recordsOf Lost (length l) .count) (listed .rising)
     where
       sooner : Loss → Bool
       sooner x = same p (x .position) && ltb (x .rounds) n
@@ -122,7 +122,7 @@ module _ (l : List ℕ) where
                   let (i, member, f) = Memᴰ·of-map (lossAt l) (count (suc k) m) among in
                   let here = same-passes p (lossAt l k .position) .0 e in
                   let there = same-passes p (x .position) .0 (and-left _ _ passes) in
-                  let above = rises .0 _ (Memᴰ·map (positionAt (recordsOf Differ (length l)) l) member) in
+                  let above = rises .0 _ (Memᴰ·map (positionAt (recordsOf Lost (length l)) l) member) in
                   not-both (before p p) (cc) (before-irreflexive p))
 
               alone : (b : Bool) → (b || any sooner (map (lossAt l) (count (suc k) m))) ≡ b
@@ -132,13 +132,13 @@ module _ (l : List ℕ) where
 
 -- ── Acceptance ──
 
-pub accepted-by-places : (g : Rules) (t : Task) (v : Verdict) (l : List ℕ)
-    → acceptedBy g t v l
-    ≡ (isFound (placeOf (t .start) (positionsIn (recordsOf v (length l)) l))
-    && all (recordHolds g t v l) (count 0 (recordsOf v (length l) .count)))
+pub accepted-by-places : (g : Rules) (t : Task) (s : Standing) (l : List ℕ)
+    → acceptedBy g t s l
+    ≡ (isFound (placeOf (t .start) (positionsIn (recordsOf s (length l)) l))
+    && all (recordHolds g t s l) (count 0 (recordsOf s (length l) .count)))
 unfolding keptAccepted lossesAccepted positionsIn lossesIn
-accepted-by-places g t Equal l =
+accepted-by-places g t Kept l =
     ap₂ _&&_ (position-listed (t .start) (keptIn l))
-    (all-map (holds g t (keptIn l)) (positionAt (recordsOf Equal (length l)) l) _)
-accepted-by-places g t Differ l =
+    (all-map (holds g t (keptIn l)) (positionAt (recordsOf Kept (length l)) l) _)
+accepted-by-places g t Lost l =
     ap₂ _&&_ (loss-listed l (t .start)) (all-map (lossHolds g t (lossesIn l)) (lossAt l) _)

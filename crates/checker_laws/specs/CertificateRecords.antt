@@ -1,4 +1,4 @@
--- The records of a proposed certificate by their places in its bytes: all whole ones, of the kind that a verdict stands for.
+-- The records of a proposed certificate by their places in its bytes: all whole ones, of the kind that a standing stands for.
 use Prim.Native.Nat.{ℕ, zero, suc, _+_, _*_, _/_, _%_}
 use mathlib.Core.Bool.{Bool, true, _&&_}
 use mathlib.Core.List.{List, map}
@@ -9,22 +9,22 @@ use Rattle.fra.specs.Position.{legal, before}
 use Rattle.fra.specs.declared.Position.{Position}
 use Rattle.fra.specs.declared.Task.{Task}
 use Rattle.outcome.specs.Certificate.{Loss}
-use Rattle.outcome.specs.declared.Verdict.{Verdict}
-use Rattle.outcome.specs.declared.Verdict.the-variants.{Equal, Differ}
+use Rattle.outcome.specs.declared.Standing.{Standing}
+use Rattle.outcome.specs.declared.Standing.the-variants.{Kept, Lost}
 use Rattle.listing.specs.Widths.{keptWidth, lostWidth}
 use Rattle.listing.specs.Listing.{ofKept, ofLost, positionAt, roundsAt, positionsIn}
 use Rattle.listing.specs.declared.Listing.{Listing}
 
 -- the whole records of n bytes
-abbrev pub recordsOf : Verdict → ℕ → Listing
-recordsOf Equal n = ofKept (n / keptWidth)
-recordsOf Differ n = ofLost (n / lostWidth)
+abbrev pub recordsOf : Standing → ℕ → Listing
+recordsOf Kept n = ofKept (n / keptWidth)
+recordsOf Lost n = ofLost (n / lostWidth)
 
 -- ── What they list ──
 
 -- the positions of records of kept ones
 abbrev pub keptIn : List ℕ → List Position
-keptIn l = positionsIn (recordsOf Equal (length l)) l
+keptIn l = positionsIn (recordsOf Kept (length l)) l
 
 -- "kind 17, position, side, edge, case, rounds": where the attack stands in a record of a loss
 abbrev pub lostSide : ℕ
@@ -39,7 +39,7 @@ lostCase = 11
 -- what record i of losses says
 unfoldable pub lossAt : List ℕ → ℕ → Loss
 lossAt l i =
-    let records = recordsOf Differ (length l) in
+    let records = recordsOf Lost (length l) in
     record {
       position = positionAt records l i;
       side = getD l (i * lostWidth + lostSide) 0;
@@ -49,7 +49,7 @@ lossAt l i =
     }
 
 unfoldable pub lossesIn : List ℕ → List Loss
-lossesIn l = map (lossAt l) (count 0 (recordsOf Differ (length l) .count))
+lossesIn l = map (lossAt l) (count 0 (recordsOf Lost (length l) .count))
 
 -- ── Form ──
 

@@ -18,7 +18,7 @@ use Rattle.fra_laws.proofs.Tests.{clash}
 use Rattle.task.specs.TaskFile.{readTask}
 use Rattle.task.specs.declared.Answer.the-variants.{Read, Refused as Unread}
 use Rattle.outcome.specs.Bytes.{allOnes, cleared, thenZeros}
-use Rattle.outcome.specs.Verdicts.{Contest, equality}
+use Rattle.outcome.specs.Verdicts.{Contest}
 use Rattle.outcome.specs.Certificate.{roundsOrNever, entries, certificateBy}
 use Rattle.outcome.specs.Compare.{Outcome, capacity, decided, refusedLate, judge, compareTask, compareRead, compare}
 use Rattle.outcome.specs.declared.Comparison.{Comparison}
@@ -40,7 +40,8 @@ use Rattle.comparer_rank.specs.RankPasses.{reachedIn, Begins}
 use Rattle.comparer_laws.proofs.Arranged.{arranged, entries-length}
 use Rattle.comparer_certify_laws.specs.Marking.{roundsFor}
 use Rattle.comparer_certify_laws.proofs.RankedTables.{ranked-searchable, start-rounds}
-use Rattle.comparer_certify.specs.CertifyAnswers.{Ranked, contestIn, certificateIn, answerOf, bufferAfter, Certifies}
+use Rattle.comparer_certify.specs.RecordFields.{contestIn}
+use Rattle.comparer_certify.specs.CertifyAnswers.{Ranked, certificateIn, answerOf, bufferAfter, Certifies}
 use Rattle.comparer_certify.specs.declared.Certified.the-variants.{Length, TooLong}
 use Rattle.comparer.specs.Outcomes.{Found, roundsFrom, Gives}
 
@@ -128,15 +129,15 @@ module _ (b : List ℕ) {old new : List ℕ} where
 -- ── Reading ──
 
 -- 1 to 10 change no buffer
-pub unread : {n : ℕ} (file table buffer : List ℕ) → readTask file .answer ≡ Unread n → Gives (compare equality file table buffer) (Refused n) table buffer
+pub unread : {n : ℕ} (c : Contest) (file table buffer : List ℕ) → readTask file .answer ≡ Unread n → Gives (compare c file table buffer) (Refused n) table buffer
 unfolding compare compareRead
-unread {n} file table buffer e = rw e record { answers = refl; tables = refl; certificates = refl }
+unread {n} c file table buffer e = rw e record { answers = refl; tables = refl; certificates = refl }
 
-pub read-compared : {r : Comparison} {table′ buffer′ : List ℕ} (file table buffer : List ℕ) → readTask file .answer ≡ Read
-    → Gives (compareTask equality (readTask file .task) table buffer) r table′ buffer′
-    → Gives (compare equality file table buffer) r table′ buffer′
+pub read-compared : {r : Comparison} {table′ buffer′ : List ℕ} (c : Contest) (file table buffer : List ℕ) → readTask file .answer ≡ Read
+    → Gives (compareTask c (readTask file .task) table buffer) r table′ buffer′
+    → Gives (compare c file table buffer) r table′ buffer′
 unfolding compare compareRead
-read-compared file table buffer e g = rw e g
+read-compared c file table buffer e g = rw e g
 
 -- ── Entries ──
 
@@ -156,12 +157,6 @@ rounds-few {t} valid g few = by (rounds g t (t .start)) refl
         let (r, b) = rounds-least valid g n e in
         let f = ne-eqb n allOnes (λ s. omega arith) in
         rw f refl
-
--- the verdicts of an index's contest are those of equality
-pub same-decision : (b : List ℕ) (n : ℕ) (o : Option ℕ) (m : ℕ) → decided equality n o m ≡ decided (contestIn b) n o m
-unfolding decided
-same-decision b n none m = refl
-same-decision b n (some k) m = refl
 
 module _ {b : List ℕ} (index : Index b) where
   abbrev g : Rules

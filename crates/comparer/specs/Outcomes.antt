@@ -13,7 +13,7 @@ use Rattle.outcome.specs.Compare.{Outcome, judge, compareTask}
 use Rattle.outcome.specs.declared.Comparison.{Comparison}
 use Rattle.listing.specs.Widths.{entryWidth}
 use Rattle.game_index.specs.Reading.{taskIn, rulesIn}
-use Rattle.comparer_certify.specs.CertifyAnswers.{contestIn}
+use Rattle.comparer_certify.specs.RecordFields.{contestIn}
 use Rattle.table_laws.specs.Keys.{keyOf}
 use Rattle.table_laws.specs.Sorted.{Permuted}
 use Rattle.table_laws.specs.Table.{keys}

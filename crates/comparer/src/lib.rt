@@ -1,9 +1,11 @@
-// The comparer (01, "Verdict, table, certificate"): a task, a lent table and a lent certificate buffer in; a verdict or a
-// refusal out. It has no memory but what is lent.
+// The comparer (01, "Verdict, table, certificate"): a game, a task, a lent table and a lent certificate buffer in; a verdict
+// or a refusal out. It has no memory but what is lent.
 use comparer_certify::Certified;
 use comparer_explore::Explored;
+use fra::Game;
 use game_index::layout::SIZE;
 use outcome::Comparison;
+use outcome::Standing;
 use outcome::Verdict;
 use outcome::layout::ENTRY;
 use outcome::layout::NEVER;
@@ -11,7 +13,7 @@ use task::Answer;
 ghost use Prim.Native.Nat.{_^_, _<_};
 ghost use mathlib.Core.Path.{_≡_};
 ghost use Rattle.outcome.specs.Bytes.{cleared};
-ghost use Rattle.outcome.specs.Verdicts.{equality};
+ghost use Rattle.outcome.specs.Verdicts.{contestOf};
 ghost use Rattle.outcome.specs.Compare.{decided, compare};
 ghost use Rattle.outcome.specs.declared.Comparison.the-variants.{Refused};
 ghost use Rattle.game_index.specs.Writing.{Index};
@@ -19,20 +21,22 @@ ghost use Rattle.comparer_certify.specs.CertifyAnswers.{Ranked};
 ghost use Rattle.comparer.specs.Outcomes.{Found, outcomeIn, judgedIn, roundsFrom, Gives};
 
 // The verdict by the start's rounds.
-fn decided(positions: usize, rounds: u32, written: usize) -> Comparison
+fn decided(game: Game, positions: usize, rounds: u32, written: usize) -> Comparison
     requires { ⌜ positions < 2 ^ 32 ⌝ }
-    ensures { λ r. ⌜ r ≡ decided equality positions (roundsFrom rounds) written ⌝ }
+    ensures { λ r. ⌜ r ≡ decided (contestOf game) positions (roundsFrom rounds) written ⌝ }
 {
     if rounds == NEVER {
+        let verdict = Verdict::of(game, Standing::Kept);
         return Comparison::Decided {
-            verdict: Verdict::Equal,
+            verdict,
             positions: positions as u32,
             rounds: 0,
             length: written,
         };
     }
+    let verdict = Verdict::of(game, Standing::Lost);
     Comparison::Decided {
-        verdict: Verdict::Differ,
+        verdict,
         positions: positions as u32,
         rounds,
         length: written,
@@ -70,7 +74,7 @@ fn judge(table: &mut [u8], n: usize, index: &[u8; SIZE], certificate: &mut [u8])
         return refuse(table, 12);
     };
     table::clear_from(table, n * ENTRY);
-    decided(n, rounds, written)
+    decided(game_index::game(index), n, rounds, written)
 }
 
 // Compares the models of an index.
@@ -85,15 +89,15 @@ fn compare_indexed(index: &[u8; SIZE], table: &mut [u8], certificate: &mut [u8])
     judge(table, n, index, certificate)
 }
 
-// Compares the models of a task file.
-pub fn compare(file: &[u8], table: &mut [u8], certificate: &mut [u8]) -> Comparison
-    ensures { λ r. ⌜ Gives (compare equality (now (file .entry)) (now (table .entry)) (now (certificate .entry))) r (now (table .exit)) (now (certificate .exit)) ⌝ }
+// Compares the models of a task file by a game.
+pub fn compare(game: Game, file: &[u8], table: &mut [u8], certificate: &mut [u8]) -> Comparison
+    ensures { λ r. ⌜ Gives (compare (contestOf game) (now (file .entry)) (now (table .entry)) (now (certificate .entry))) r (now (table .exit)) (now (certificate .exit)) ⌝ }
 {
     let read = task_reader::read_task(file);
     let answer = read.answer;
     if let Answer::Refused(n) = answer {
         return Comparison::Refused(n);
     }
-    let index = game_indexing::of(read.task);
+    let index = game_indexing::of(read.task, game);
     compare_indexed(&index, table, certificate)
 }

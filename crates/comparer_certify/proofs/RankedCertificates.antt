@@ -11,7 +11,7 @@ use Rattle.fra.specs.Valid.{Valid}
 use Rattle.fra.specs.declared.Task.{Task}
 use Rattle.outcome.specs.Bytes.{allOnes}
 use Rattle.outcome.specs.Certificate.{roundsOrNever, certificateBy}
-use Rattle.outcome.specs.declared.Verdict.the-variants.{Equal, Differ}
+use Rattle.outcome.specs.declared.Standing.the-variants.{Kept, Lost}
 use Rattle.outcome_laws.proofs.WrittenLists.{rounds-least}
 use Rattle.listing.specs.Listing.{ofTable, Searchable}
 use Rattle.game_index.specs.Reading.{taskIn, rulesIn}
@@ -44,33 +44,33 @@ module _ {b : List ℕ} (index : Index b) where
     start-by = rw (ranked .counted, ranked .begins) (start-rounds valid g few (ranked .rest))
 
     -- a start that is never lost
-    pub never-lost : roundsFor n (t .start) table ≡ allOnes → recordsIn b Equal n table ≡ certificateIn b
+    pub never-lost : roundsFor n (t .start) table ≡ allOnes → recordsIn b Kept n table ≡ certificateIn b
     unfolding certificateBy
     never-lost e = by (rounds g t (t .start)) refl
       where
-        by : (o : Option ℕ) → rounds g t (t .start) ≡ o → recordsIn b Equal n table ≡ certificateIn b
-        by none d = rw (d, ranked .counted, ranked .begins) (kept-records valid g few (ranked .rest))
+        by : (o : Option ℕ) → rounds g t (t .start) ≡ o → recordsIn b Kept n table ≡ certificateIn b
+        by none d = rw (d, ranked .counted, ranked .begins) (kept-records valid g few (ranked .rest) _)
         by (some k) d =
             let s : k ≡ allOnes = ap roundsOrNever (sym d) ∙ sym start-by ∙ e in
             absurd (omega (arith, few, rounds-least valid g k d .1))
 
     -- a start that is lost in k rounds
-    pub record Lost (k : ℕ) : Type 0 where
+    pub record LostStart (k : ℕ) : Type 0 where
       pub small : k < roundsLimit
-      pub certificate : recordsIn b Differ n (prepared g t n k table) ≡ certificateIn b
+      pub certificate : recordsIn b Lost n (prepared g t n k table) ≡ certificateIn b
       pub restored : changed halved n (prepared g t n k table) ≡ table
 
-    pub lost : (k : ℕ) → roundsFor n (t .start) table ≡ k → (k ≡ allOnes → ⊥) → Lost k
+    pub lost : (k : ℕ) → roundsFor n (t .start) table ≡ k → (k ≡ allOnes → ⊥) → LostStart k
     unfolding certificateBy
     lost k e d = by (rounds g t (t .start)) refl
       where
-        by : (o : Option ℕ) → rounds g t (t .start) ≡ o → Lost k
+        by : (o : Option ℕ) → rounds g t (t .start) ≡ o → LostStart k
         by none f = absurd (d (sym e ∙ start-by ∙ ap roundsOrNever f))
         by (some j) f =
             let s : k ≡ j = sym e ∙ start-by ∙ ap roundsOrNever f in
             rw s
             (record {
               small = omega (arith, few, rounds-least valid g j f .1);
-              certificate = rw (f, ranked .counted, ranked .begins) (lost-certificate valid g few (ranked .rest) j f);
+              certificate = rw (f, ranked .counted, ranked .begins) (lost-certificate valid g few (ranked .rest) j f _);
               restored = rw (ranked .counted, ranked .begins) (table-restored valid g few (ranked .rest) j f);
             })

@@ -7,10 +7,9 @@ use lib.ListN.{length}
 use lib.Dec.{ltb}
 use Rattle.fra.specs.Reach.{reached, rounds}
 use Rattle.outcome.specs.Bytes.{thenRest}
-use Rattle.outcome.specs.Verdicts.{Contest}
 use Rattle.outcome.specs.Certificate.{entries, certificateBy}
 use Rattle.game_index.specs.Reading.{taskIn, rulesIn}
-use Rattle.outcome_laws.specs.Contests.{contestOf}
+use Rattle.comparer_certify.specs.RecordFields.{contestIn}
 use Rattle.comparer_certify.specs.declared.Certified.{Certified}
 use Rattle.comparer_certify.specs.declared.Certified.the-variants.{Length, TooLong}
 
@@ -19,10 +18,6 @@ pub record Ranked (b : List ℕ) (n : ℕ) (table : List ℕ) : Type 0 where
   pub counted : n ≡ length (reached (rulesIn b) (taskIn b))
   pub rest : List ℕ
   pub begins : table ≡ entries (rulesIn b) (taskIn b) ++ rest
-
--- the game of an index with its two verdicts
-abbrev pub contestIn : List ℕ → Contest
-contestIn b = contestOf (rulesIn b)
 
 abbrev pub certificateIn : List ℕ → List ℕ
 certificateIn b = certificateBy (contestIn b) (taskIn b) (rounds (rulesIn b) (taskIn b) (taskIn b .start))

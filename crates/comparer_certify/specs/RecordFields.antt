@@ -2,8 +2,9 @@
 use Prim.Native.Nat.{ℕ}
 use mathlib.Core.List.{List, [], _∷_}
 use Rattle.outcome.specs.Certificate.{sideNumber, caseNumber}
-use Rattle.outcome.specs.declared.Verdict.{Verdict}
-use Rattle.game_index.specs.Reading.{taskIn, rulesIn}
+use Rattle.outcome.specs.Verdicts.{Contest, contestOf, verdictOf, kindOf}
+use Rattle.outcome.specs.declared.Standing.{Standing}
+use Rattle.game_index.specs.Reading.{taskIn, gameIn, rulesIn}
 use Rattle.game_wins.specs.declared.Win.{Win}
 use Rattle.game_wins.specs.declared.Win.the-variants.{By, Nobody}
 use Rattle.comparer_certify_laws.specs.EntryRecords.{recordAt, recordsOf}
@@ -17,10 +18,18 @@ abbrev pub attackBytes : Win → List ℕ
 attackBytes (By a) = sideNumber (a .side) ∷ a .edge ∷ caseNumber 6 (a .case) ∷ []
 attackBytes Nobody = 0 ∷ 0 ∷ 0 ∷ []
 
+-- the game of an index with its two verdicts
+abbrev pub contestIn : List ℕ → Contest
+contestIn b = contestOf (gameIn b)
+
+-- the kind byte of its records
+abbrev pub kindIn : List ℕ → Standing → ℕ
+kindIn b s = kindOf (verdictOf (gameIn b) s)
+
 -- the record of entry i, for the game and the task of an index b
-abbrev pub recordIn : List ℕ → Verdict → ℕ → List ℕ → ℕ → List ℕ
-recordIn b v n table i = recordAt (rulesIn b) (taskIn b) v n table i
+abbrev pub recordIn : List ℕ → Standing → ℕ → List ℕ → ℕ → List ℕ
+recordIn b s n table i = recordAt (rulesIn b) (taskIn b) s (kindIn b s) n table i
 
 -- those of all entries that have one
-abbrev pub recordsIn : List ℕ → Verdict → ℕ → List ℕ → List ℕ
-recordsIn b v n table = recordsOf (rulesIn b) (taskIn b) v n table
+abbrev pub recordsIn : List ℕ → Standing → ℕ → List ℕ → List ℕ
+recordsIn b s n table = recordsOf (rulesIn b) (taskIn b) s (kindIn b s) n table

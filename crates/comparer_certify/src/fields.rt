@@ -10,9 +10,8 @@ use listing::position_at;
 use listing::put_position;
 use listing::rounds_at;
 use listing::words::put_word;
+use outcome::Standing;
 use outcome::Verdict;
-use outcome::layout::KEPT_KIND;
-use outcome::layout::LOST_KIND;
 use outcome::layout::POSITION;
 use outcome::layout::ROUNDS;
 use outcome::layout::SIDE;
@@ -21,12 +20,12 @@ ghost use mathlib.Core.Path.{_≡_};
 ghost use lib.ListN.{length};
 ghost use lib.Seq.{sets};
 ghost use Rattle.outcome.specs.Certificate.{sideNumber, caseNumber, keptRecord};
-ghost use Rattle.outcome.specs.declared.Verdict.the-variants.{Differ};
+ghost use Rattle.outcome.specs.declared.Standing.the-variants.{Lost};
 ghost use Rattle.listing.specs.Widths.{keptWidth, lostWidth};
 ghost use Rattle.listing.specs.Listing.{ofTable, Searchable};
 ghost use Rattle.game_index.specs.Writing.{Index};
 ghost use Rattle.outcome.specs.Verdicts.{widthOf};
-ghost use Rattle.comparer_certify.specs.RecordFields.{attackWidth, attackBytes, recordIn};
+ghost use Rattle.comparer_certify.specs.RecordFields.{attackWidth, attackBytes, kindIn, recordIn};
 
 fn side_number(side: Side) -> u8
     ensures { λ r. ⌜ r ≡ sideNumber side ⌝ }
@@ -46,6 +45,14 @@ fn case_number(case: IdCase) -> u8
         IdCase::Seen => 7,
         IdCase::New => 8,
     }
+}
+
+// The kind byte of the index's game.
+fn kind_of(index: &[u8; SIZE], standing: Standing) -> u8
+    ensures { λ r. ⌜ r ≡ kindIn (now (index .entry)) standing ⌝ }
+{
+    let verdict = Verdict::of(game_index::game(index), standing);
+    verdict.kind()
 }
 
 // Writes a kind and a position.
@@ -82,13 +89,13 @@ fn put_attack(buffer: &mut [u8], at: usize, attack: Win)
 fn put_loss(table: &[u8], n: usize, index: &[u8; SIZE], i: usize, buffer: &mut [u8], at: usize)
     requires { ⌜ Searchable (ofTable n) (now table) ⌝ }
     requires { ⌜ Index (now index) × (i < n) × (at + lostWidth ≤ length (now buffer)) ⌝ }
-    ensures { λ _. ⌜ now (buffer .exit) ≡ sets (now (buffer .entry)) at (recordIn (now (index .entry)) Differ n (now (table .entry)) i) ⌝ }
+    ensures { λ _. ⌜ now (buffer .exit) ≡ sets (now (buffer .entry)) at (recordIn (now (index .entry)) Lost n (now (table .entry)) i) ⌝ }
 {
     let entries = Listing::of_table(n);
     let p = position_at(table, entries, i);
     let rounds = rounds_at(table, entries, i) / 2;
     let attack = attack_of(table, n, index, p, rounds);
-    put_head(buffer, at, LOST_KIND, p);
+    put_head(buffer, at, kind_of(index, Standing::Lost), p);
     put_attack(buffer, at + SIDE, attack);
     put_word(buffer, at + ROUNDS, rounds);
 }
@@ -98,20 +105,20 @@ pub fn put_record(
     table: &[u8],
     n: usize,
     index: &[u8; SIZE],
-    verdict: Verdict,
+    standing: Standing,
     i: usize,
     buffer: &mut [u8],
     at: usize,
 )
     requires { ⌜ Searchable (ofTable n) (now table) ⌝ }
-    requires { ⌜ Index (now index) × (i < n) × (at + widthOf verdict ≤ length (now buffer)) ⌝ }
-    ensures { λ _. ⌜ now (buffer .exit) ≡ sets (now (buffer .entry)) at (recordIn (now (index .entry)) verdict n (now (table .entry)) i) ⌝ }
+    requires { ⌜ Index (now index) × (i < n) × (at + widthOf standing ≤ length (now buffer)) ⌝ }
+    ensures { λ _. ⌜ now (buffer .exit) ≡ sets (now (buffer .entry)) at (recordIn (now (index .entry)) standing n (now (table .entry)) i) ⌝ }
 {
-    match verdict {
-        Verdict::Equal => {
+    match standing {
+        Standing::Kept => {
             let p = position_at(table, Listing::of_table(n), i);
-            put_head(buffer, at, KEPT_KIND, p);
+            put_head(buffer, at, kind_of(index, Standing::Kept), p);
         }
-        Verdict::Differ => put_loss(table, n, index, i, buffer, at),
+        Standing::Lost => put_loss(table, n, index, i, buffer, at),
     }
 }

@@ -9,7 +9,7 @@ use comparer_marks::Scale;
 use comparer_marks::rescale;
 use comparer_marks::rounds_of;
 use game_index::layout::SIZE;
-use outcome::Verdict;
+use outcome::Standing;
 use outcome::layout::NEVER;
 ghost use Rattle.game_index.specs.Writing.{Index};
 ghost use Rattle.comparer_certify.specs.CertifyAnswers.{Ranked, certificateIn, Certifies};
@@ -28,10 +28,10 @@ pub fn certify(table: &mut [u8], n: usize, index: &[u8; SIZE], buffer: &mut [u8]
 {
     let rounds = rounds_of(table, n, game_index::start(index));
     if rounds == NEVER {
-        return write(table, n, index, Verdict::Equal, buffer);
+        return write(table, n, index, Standing::Kept, buffer);
     }
     prepare(table, n, index, rounds);
-    let answer = write(table, n, index, Verdict::Differ, buffer);
+    let answer = write(table, n, index, Standing::Lost, buffer);
     rescale(table, n, Scale::Halve);
     answer
 }

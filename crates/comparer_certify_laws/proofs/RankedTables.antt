@@ -18,9 +18,8 @@ use Rattle.fra_laws.proofs.Tests.{clash, fails-unless}
 use Rattle.fra_laws.proofs.Reached.{reached-start, reached-rising}
 use Rattle.fra_laws.proofs.StringsInARow.{flatMap-map}
 use Rattle.outcome.specs.Bytes.{allOnes}
-use Rattle.outcome.specs.Verdicts.{kindOf}
 use Rattle.outcome.specs.Certificate.{roundsOrNever, isNever, entry, entries, keptRecord, keptPositions, lossRecord, lossWith, lossOf, losses}
-use Rattle.outcome.specs.declared.Verdict.the-variants.{Equal, Differ}
+use Rattle.outcome.specs.declared.Standing.the-variants.{Kept, Lost}
 use Rattle.outcome_laws.proofs.WrittenLists.{listed, rounds-least}
 use Rattle.listing.specs.Listing.{ofTable, Searchable}
 use Rattle.listing.specs.Lookup.{placeOf}
@@ -99,15 +98,16 @@ module _ {t : Task} (valid : Valid 6 t) (g : Rules) (few : length (reached g t) 
 
   -- ── Positions that are never lost ──
 
-  pub kept-records : recordsOf g t Equal N (entries g t ++ rest) ≡ flatMap (keptRecord (kindOf Equal)) (keptPositions g t)
+  pub kept-records : (kind : ℕ)
+      → recordsOf g t Kept kind N (entries g t ++ rest) ≡ flatMap (keptRecord kind) (keptPositions g t)
   unfolding recordsOf listedPlaces recordAt keptPositions
-  kept-records =
-      ap (λ (m : List ℕ). recordsOf g t Equal N (m ++ rest)) entries-rows
-      ∙ by-places l z (λ p. isNever (rankOf valid g p)) _ (keptRecord (kindOf Equal)) _
+  kept-records kind =
+      ap (λ (m : List ℕ). recordsOf g t Kept kind N (m ++ rest)) entries-rows
+      ∙ by-places l z (λ p. isNever (rankOf valid g p)) _ (keptRecord kind) _
       (λ i b.
       ap (λ (w : ℕ). eqb w allOnes) (rows-rounds rankWord l rest six i z b (rank-fits _))
       ∙ never-is (rankOf valid g (getD l i z)) (few-rounds valid g few rest (getD l i z)))
-      (λ i b h. ap (keptRecord (kindOf Equal)) (rows-position rankWord l rest six i z b))
+      (λ i b h. ap (keptRecord kind) (rows-position rankWord l rest six i z b))
 
   -- ── Positions of an attack ──
 
@@ -135,18 +135,18 @@ module _ {t : Task} (valid : Valid 6 t) (g : Rules) (few : length (reached g t) 
         by (some k) e =
             ap (λ (o : Option ℕ). isMarked (markedRounds o (M p))) e ∙ isMarked-marked k (M p) (few-rounds valid g few rest p k e)
 
-    lost-records : (M : Position → Bool) → Marks valid g 0 M
-        → recordsOf g t Differ N (markedTable valid g few rest M) ≡ flatMap (lossRecord (kindOf Differ)) (losses g t)
+    lost-records : (kind : ℕ) (M : Position → Bool) → Marks valid g 0 M
+        → recordsOf g t Lost kind N (markedTable valid g few rest M) ≡ flatMap (lossRecord kind) (losses g t)
     unfolding recordsOf listedPlaces recordAt losses
-    lost-records M marks =
-        by-places l z M _ (λ p. lossRecord (kindOf Differ) (lossOf g t N p)) _
+    lost-records kind M marks =
+        by-places l z M _ (λ p. lossRecord kind (lossOf g t N p)) _
         (λ i b. ap isMarked (marked-rounds valid g few rest M i b) ∙ mark-read M marks (getD l i z))
         (λ i b h.
         let (k, m, e) = led-lost valid g n lost (marks .sound (getD l i z) h) in
         rw (marked-position valid g few rest M i b, marked-rounds valid g few rest M i b)
-        (ap (lossRecord (kindOf Differ)) (record-of M (getD l i z) k m e)))
-        ∙ ap (flatMap (λ p. lossRecord (kindOf Differ) (lossOf g t N p))) (marks-listed valid g n lost M marks)
-        ∙ sym (flatMap-map (lossRecord (kindOf Differ)) (lossOf g t N) (listed valid g))
+        (ap (lossRecord kind) (record-of M (getD l i z) k m e)))
+        ∙ ap (flatMap (λ p. lossRecord kind (lossOf g t N p))) (marks-listed valid g n lost M marks)
+        ∙ sym (flatMap-map (lossRecord kind) (lossOf g t N) (listed valid g))
 
     -- ── A start that is lost ──
 
@@ -157,9 +157,9 @@ module _ {t : Task} (valid : Valid 6 t) (g : Rules) (few : length (reached g t) 
         (marked-down valid g few rest n lost n (also (t .start) (λ p. false)) (rounds-least valid g n lost .1)
         (marks-start valid g n lost))
 
-    pub lost-certificate : recordsOf g t Differ N (prepared g t N n (entries g t ++ rest))
-        ≡ flatMap (lossRecord (kindOf Differ)) (losses g t)
-    lost-certificate = rw (ready .is) (lost-records (ready .M) (ready .marks))
+    pub lost-certificate : (kind : ℕ)
+        → recordsOf g t Lost kind N (prepared g t N n (entries g t ++ rest)) ≡ flatMap (lossRecord kind) (losses g t)
+    lost-certificate kind = rw (ready .is) (lost-records kind (ready .M) (ready .marks))
 
     pub table-restored : changed halved N (prepared g t N n (entries g t ++ rest)) ≡ entries g t ++ rest
     table-restored = rw (ready .is) (halved-table (ready .M))

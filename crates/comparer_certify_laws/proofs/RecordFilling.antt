@@ -17,10 +17,10 @@ use Rattle.fra_laws.proofs.Lists.{keep-elim, count-elim}
 use Rattle.fra_laws.proofs.Lengths.{flatMap-length}
 use Rattle.outcome.specs.Bytes.{word, thenRest}
 use Rattle.outcome.specs.Check.{positionOf}
-use Rattle.outcome.specs.Verdicts.{kindOf, widthOf}
+use Rattle.outcome.specs.Verdicts.{widthOf}
 use Rattle.outcome.specs.Certificate.{Loss, keptRecord, lossRecord}
-use Rattle.outcome.specs.declared.Verdict.{Verdict}
-use Rattle.outcome.specs.declared.Verdict.the-variants.{Equal, Differ}
+use Rattle.outcome.specs.declared.Standing.{Standing}
+use Rattle.outcome.specs.declared.Standing.the-variants.{Kept, Lost}
 use Rattle.outcome_laws.proofs.WrittenLists.{loss-position}
 use Rattle.listing.specs.Widths.{entryWidth, keptWidth, lostWidth}
 use Rattle.listing.specs.Listing.{ofTable, positionAt, Fitting}
@@ -30,8 +30,8 @@ use Rattle.comparer_certify_laws.specs.EntryRecords.{isListed, listedPla
 use Rattle.comparer_certify_laws.proofs.KeptStrings.{keep-count-passes, keep-count-fails, stringsBelow, strings-more, strings-same, strings-grow, strings-write}
 
 -- entry i has a record
-abbrev pub listedAt : Verdict → List ℕ → ℕ → Bool
-listedAt v table i = isListed v (roundsOf table i)
+abbrev pub listedAt : Standing → List ℕ → ℕ → Bool
+listedAt s table i = isListed s (roundsOf table i)
 
 -- all records, from a buffer's start
 pub written-whole : (certificate buffer : List ℕ) → length certificate ≤ length buffer
@@ -57,55 +57,55 @@ module _ (n : ℕ) (table : List ℕ) (room : Fitting (ofTable n) table) where
       length-take-le 6 (drop 2 (drop (i * entryWidth) table))
       (simp length-drop (omega (arith, record-room (ofTable n) table room i b)))
 
-  module _ (g : Rules) (t : Task) where
-    pub record-width : (v : Verdict) (i : ℕ) → i < n → length (recordAt g t v n table i) ≡ widthOf v
+  module _ (g : Rules) (t : Task) (kind : ℕ) where
+    pub record-width : (s : Standing) (i : ℕ) → i < n → length (recordAt g t s kind n table i) ≡ widthOf s
     unfolding recordAt
-    record-width Equal i b = kept-width (kindOf Equal) (positionAt (ofTable n) table i) (entry-six i b)
-    record-width Differ i b =
-        loss-width (kindOf Differ) _
+    record-width Kept i b = kept-width kind (positionAt (ofTable n) table i) (entry-six i b)
+    record-width Lost i b =
+        loss-width kind _
         (ap (λ (p : Position). length (p .partners)) (loss-position (positionAt (ofTable n) table i) _ _) ∙ entry-six i b)
 
-    pub records-width : (v : Verdict) → length (recordsOf g t v n table) ≡ length (listedPlaces v n table) * widthOf v
+    pub records-width : (s : Standing) → length (recordsOf g t s kind n table) ≡ length (listedPlaces s n table) * widthOf s
     unfolding recordsOf listedPlaces
-    records-width v =
-        flatMap-length (recordAt g t v n table) (listedPlaces v n table) (widthOf v)
+    records-width s =
+        flatMap-length (recordAt g t s kind n table) (listedPlaces s n table) (widthOf s)
         (λ i m.
-        let (c, h) = keep-elim (listedAt v table) i (count 0 n) m in
-        record-width v i (omega (arith, count-elim 0 n i c .1)))
+        let (c, h) = keep-elim (listedAt s table) i (count 0 n) m in
+        record-width s i (omega (arith, count-elim 0 n i c .1)))
 
 -- ── How many there are ──
 
-module _ (v : Verdict) (table : List ℕ) (i : ℕ) where
-  pub listed-more : listedAt v table i ≡ true → length (listedPlaces v (i + 1) table) ≡ length (listedPlaces v i table) + 1
+module _ (s : Standing) (table : List ℕ) (i : ℕ) where
+  pub listed-more : listedAt s table i ≡ true → length (listedPlaces s (i + 1) table) ≡ length (listedPlaces s i table) + 1
   unfolding listedPlaces
-  listed-more e = rw (keep-count-passes (listedAt v table) i e, length-append)
+  listed-more e = rw (keep-count-passes (listedAt s table) i e, length-append)
 
-  pub listed-same : listedAt v table i ≡ false → length (listedPlaces v (i + 1) table) ≡ length (listedPlaces v i table)
+  pub listed-same : listedAt s table i ≡ false → length (listedPlaces s (i + 1) table) ≡ length (listedPlaces s i table)
   unfolding listedPlaces
-  listed-same e = ap length (keep-count-fails (listedAt v table) i e)
+  listed-same e = ap length (keep-count-fails (listedAt s table) i e)
 
 -- no more than the entries
-pub listed-few : (v : Verdict) (table : List ℕ) (i : ℕ) → length (listedPlaces v i table) ≤ i
+pub listed-few : (s : Standing) (table : List ℕ) (i : ℕ) → length (listedPlaces s i table) ≤ i
 unfolding listedPlaces keep count
-listed-few v table zero = omega arith
-listed-few v table (suc i) =
-    subst (λ (k : ℕ). length (listedPlaces v k table) ≤ k) (add-one i) (step (listedAt v table i) refl (listed-few v table i))
+listed-few s table zero = omega arith
+listed-few s table (suc i) =
+    subst (λ (k : ℕ). length (listedPlaces s k table) ≤ k) (add-one i) (step (listedAt s table i) refl (listed-few s table i))
   where
-    step : (b : Bool) → listedAt v table i ≡ b → length (listedPlaces v i table) ≤ i
-        → length (listedPlaces v (i + 1) table) ≤ i + 1
-    step true e h = omega (arith, listed-more v table i e)
-    step false e h = omega (arith, listed-same v table i e)
+    step : (b : Bool) → listedAt s table i ≡ b → length (listedPlaces s i table) ≤ i
+        → length (listedPlaces s (i + 1) table) ≤ i + 1
+    step true e h = omega (arith, listed-more s table i e)
+    step false e h = omega (arith, listed-same s table i e)
 
-pub bytes-few : (v : Verdict) (table : List ℕ) (i : ℕ) → length (listedPlaces v i table) * widthOf v ≤ i * lostWidth
-bytes-few Equal table i = omega (arith, listed-few Equal table i)
-bytes-few Differ table i = omega (arith, listed-few Differ table i)
+pub bytes-few : (s : Standing) (table : List ℕ) (i : ℕ) → length (listedPlaces s i table) * widthOf s ≤ i * lostWidth
+bytes-few Kept table i = omega (arith, listed-few Kept table i)
+bytes-few Lost table i = omega (arith, listed-few Lost table i)
 
 -- ── Records written one after another ──
 
-module _ (g : Rules) (t : Task) (v : Verdict) (n : ℕ) (table first : List ℕ) where
+module _ (g : Rules) (t : Task) (s : Standing) (kind n : ℕ) (table first : List ℕ) where
   -- those of the entries before i
   abbrev recordsBelow : ℕ → List ℕ
-  recordsBelow i = stringsBelow (listedAt v table) (recordAt g t v n table) i
+  recordsBelow i = stringsBelow (listedAt s table) (recordAt g t s kind n table) i
 
   -- they stand at the buffer's start, and the next goes to this place
   pub record Filled (i at : ℕ) (buffer : List ℕ) : Type 0 where
@@ -120,24 +120,24 @@ module _ (g : Rules) (t : Task) (v : Verdict) (n : ℕ) (table first : List ℕ)
   pub filled-long : {i at : ℕ} {buffer : List ℕ} → Filled i at buffer → length buffer ≡ length first
   filled-long {i} h = ap length (h .is) ∙ length-sets first 0 (recordsBelow i)
 
-  pub filled-same : {i at : ℕ} {buffer : List ℕ} → Filled i at buffer → i < n → listedAt v table i ≡ false
+  pub filled-same : {i at : ℕ} {buffer : List ℕ} → Filled i at buffer → i < n → listedAt s table i ≡ false
       → Filled (i + 1) at buffer
   filled-same {i} h b e =
-      let same = strings-same (listedAt v table) (recordAt g t v n table) i e in
+      let same = strings-same (listedAt s table) (recordAt g t s kind n table) i e in
       record { within = omega arith; place = rw same (h .place); is = rw same (h .is) }
 
   module _ (room : Fitting (ofTable n) table) {i at : ℕ} {buffer : List ℕ} (h : Filled i at buffer) (b : i < n)
-      (e : listedAt v table i ≡ true) where
-    next-place : at + widthOf v ≡ length (recordsBelow (i + 1))
+      (e : listedAt s table i ≡ true) where
+    next-place : at + widthOf s ≡ length (recordsBelow (i + 1))
     next-place =
         rw (
-          strings-more (listedAt v table) (recordAt g t v n table) i e,
+          strings-more (listedAt s table) (recordAt g t s kind n table) i e,
           length-append,
           ← h .place,
-          record-width n table room g t v i b,
+          record-width n table room g t kind s i b,
         )
 
-    pub next-fits : length (recordsOf g t v n table) ≤ length first → at + widthOf v ≤ length buffer
+    pub next-fits : length (recordsOf g t s kind n table) ≤ length first → at + widthOf s ≤ length buffer
     unfolding recordsOf listedPlaces
     next-fits fits =
         omega (
@@ -145,18 +145,18 @@ module _ (g : Rules) (t : Task) (v : Verdict) (n : ℕ) (table first : List ℕ)
           fits,
           next-place,
           filled-long h,
-          strings-grow (listedAt v table) (recordAt g t v n table) (i + 1) n (omega arith),
+          strings-grow (listedAt s table) (recordAt g t s kind n table) (i + 1) n (omega arith),
         )
 
-    pub filled-more : (buffer′ : List ℕ) → buffer′ ≡ sets buffer at (recordAt g t v n table i)
-        → Filled (i + 1) (at + widthOf v) buffer′
+    pub filled-more : (buffer′ : List ℕ) → buffer′ ≡ sets buffer at (recordAt g t s kind n table i)
+        → Filled (i + 1) (at + widthOf s) buffer′
     filled-more buffer′ w =
         record {
           within = omega arith;
           place = next-place;
-          is = w ∙ rw (h .is, h .place) (strings-write (listedAt v table) (recordAt g t v n table) first i e);
+          is = w ∙ rw (h .is, h .place) (strings-write (listedAt s table) (recordAt g t s kind n table) first i e);
         }
 
-  pub filled-all : {i at : ℕ} {buffer : List ℕ} → Filled i at buffer → n ≤ i → buffer ≡ sets first 0 (recordsOf g t v n table)
+  pub filled-all : {i at : ℕ} {buffer : List ℕ} → Filled i at buffer → n ≤ i → buffer ≡ sets first 0 (recordsOf g t s kind n table)
   unfolding recordsOf listedPlaces
   filled-all {i} h b = let all-of-them : i ≡ n = omega arith in rw all-of-them at (h .is)

@@ -13,7 +13,7 @@ use Rattle.game_index.specs.Reading.{modelIn, taskIn, rulesIn}
 use Rattle.game_index.specs.Ranges.{stateRange}
 use Rattle.game_index.specs.Writing.{Index}
 use Rattle.game_index.specs.declared.Range.{Range}
-use Rattle.game_index.proofs.Reading.{index-model, sized-in}
+use Rattle.game_index.proofs.Reading.{index-model, sized-in, left-attacks}
 use Rattle.game_index.proofs.EdgeRanges.{state-inside, tag-inside, state-range-edge, tag-range-edge}
 use Rattle.table_laws.specs.Keys.{keyOf}
 use Rattle.comparer_explore_laws.specs.Growth.{Among}
@@ -27,7 +27,7 @@ module _ {b : List ℕ} (index : Index b) (p : Position) (legal-p : legal 6 (tas
   pub edges-of-successors : (k : ℕ) → SuccessorKey (rulesIn b) (taskIn b) p k → Among (edges .first) (edges .end) (EdgeKey b p) k
   unfolding taskIn
   edges-of-successors k (q, m, d) =
-      let (i, j, x, f) = successors-by-pairs (index .indexable .valid) (rulesIn b) p legal-p Left (index .attacked) q .0 m in
+      let (i, j, x, f) = successors-by-pairs (index .indexable .valid) (rulesIn b) p legal-p Left (left-attacks b) q .0 m in
       let (first, end) =
       state-inside (index-model index Left) (sized-in b Left) (p .left) i (record { exists = x .exists; starts = x .starts }) in
       let (other-first, other-end) =
@@ -53,6 +53,6 @@ module _ {b : List ℕ} (index : Index b) (p : Position) (legal-p : legal 6 (tas
       } in
       let after = moved-to (taskIn b) p (edgeOf (modelIn b Left) i) (edgeOf (modelIn b Right) j) in (
         _,
-        successors-by-pairs (index .indexable .valid) (rulesIn b) p legal-p Left (index .attacked) _ .1 (i, j, pair, refl),
+        successors-by-pairs (index .indexable .valid) (rulesIn b) p legal-p Left (left-attacks b) _ .1 (i, j, pair, refl),
         d ∙ ap keyOf after,
       )

@@ -6,7 +6,7 @@ use listing::Place;
 use listing::find;
 use listing::rounds_at;
 use listing::words::put_word;
-use outcome::Verdict;
+use outcome::Standing;
 use outcome::layout::ENTRY;
 use outcome::layout::ENTRY_ROUNDS;
 use outcome::layout::NEVER;
@@ -94,26 +94,26 @@ fn is_marked(rounds: u32) -> bool
     rounds % 2 == 1 && rounds != NEVER
 }
 
-// An entry with these rounds has a record in the certificate of the verdict.
-pub fn is_listed(verdict: Verdict, rounds: u32) -> bool
-    ensures { λ r. ⌜ r ≡ isListed verdict rounds ⌝ }
+// An entry with these rounds has a record in the certificate of the standing.
+pub fn is_listed(standing: Standing, rounds: u32) -> bool
+    ensures { λ r. ⌜ r ≡ isListed standing rounds ⌝ }
 {
-    match verdict {
-        Verdict::Equal => rounds == NEVER,
-        Verdict::Differ => is_marked(rounds),
+    match standing {
+        Standing::Kept => rounds == NEVER,
+        Standing::Lost => is_marked(rounds),
     }
 }
 
 // How many of the first n entries have a record.
-pub fn count_listed(table: &[u8], n: usize, verdict: Verdict) -> usize
+pub fn count_listed(table: &[u8], n: usize, standing: Standing) -> usize
     requires { ⌜ Fitting (ofTable n) (now table) ⌝ }
-    ensures { λ r. ⌜ r ≡ length (listedPlaces verdict n (now (table .entry))) ⌝ }
+    ensures { λ r. ⌜ r ≡ length (listedPlaces standing n (now (table .entry))) ⌝ }
 {
     let entries = Listing::of_table(n);
     let mut found = 0;
     let mut i = 0;
     while i < n {
-        if is_listed(verdict, rounds_at(table, entries, i)) {
+        if is_listed(standing, rounds_at(table, entries, i)) {
             found += 1;
         }
         i += 1;

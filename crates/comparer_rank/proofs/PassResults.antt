@@ -19,6 +19,7 @@ use Rattle.outcome.specs.Bytes.{allOnes}
 use Rattle.outcome.specs.Certificate.{entry, entries}
 use Rattle.table_laws.specs.Table.{row}
 use Rattle.listing.specs.Widths.{entryWidth}
+use Rattle.game_index.proofs.Reading.{left-attacks}
 use Rattle.game_index.specs.Reading.{taskIn, rulesIn}
 use Rattle.game_index.specs.Writing.{Index}
 use Rattle.comparer_rank_laws.specs.Levels.{level}
@@ -56,11 +57,11 @@ module _ {b : List ℕ} (index : Index b) where
   module _ (k : ℕ) {n : ℕ} {table : List ℕ} (small : k + 1 < allOnes) (begins : Begins b (level g t k) n table) where
     -- what pass k has left tells which states have lost positions
     pub pass-covers-lost : CoversLost g t k (lostPairs table 0 (k + 1) n)
-    pass-covers-lost = rw add-one (covers-lost valid g (index .attacked) k (rw add-one at small) begins)
+    pass-covers-lost = rw add-one (covers-lost valid g (left-attacks b) k (rw add-one at small) begins)
 
     -- what pass k has marked, from pass 1 on, tells where the next one has to look
     pub pass-covers : 1 ≤ k → Covers g t (k + 1) (sources t (lostPairs table k (k + 1) n))
-    pass-covers a = rw add-one (covers-next valid g (index .attacked) k (rw add-one at small) begins a)
+    pass-covers a = rw add-one (covers-next valid g (left-attacks b) k (rw add-one at small) begins a)
 
   closed : Closed g t l
   closed p m a i k r = reached-after valid g p a k m i r

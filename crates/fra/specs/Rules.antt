@@ -1,11 +1,13 @@
 -- What a game on two models is played by: its sides, and its rules.
-use Prim.Native.Nat.{ℕ}
-use mathlib.Core.Bool.{Bool, true, not}
+use Prim.Native.Nat.{ℕ, zero, suc}
+use mathlib.Core.Bool.{Bool, true, false, not, _&&_}
 use lib.Dec.{eqb}
 use Rattle.fra.specs.declared.Model.{Model}
 use Rattle.fra.specs.declared.Task.{Task}
 use Rattle.fra.specs.declared.Side.{Side}
 use Rattle.fra.specs.declared.Side.the-variants.{Left, Right}
+use Rattle.fra.specs.declared.Game.{Game}
+use Rattle.fra.specs.declared.Game.the-variants.{BothAttack, LeftAttacks}
 
 abbrev pub other : Side → Side
 other Left = Right
@@ -34,3 +36,25 @@ pub record Rules : Type 0 where
 -- bisimulation: both sides attack, and differing end marks lose
 abbrev pub bisimulation : Rules
 bisimulation = record { attacks = λ s. true; lost = λ l r. not (eqb l r) }
+
+-- simulation (02, ticket 1): "only the left side attacks, and a position is lost in 0 rounds if the left end mark is 1 and the
+-- right is 0"
+abbrev pub isLeft : Side → Bool
+isLeft Left = true
+isLeft Right = false
+
+abbrev pub simulation : Rules
+simulation = record { attacks = isLeft; lost = λ l r. eqb l 1 && eqb r 0 }
+
+abbrev pub rulesOf : Game → Rules
+rulesOf BothAttack = bisimulation
+rulesOf LeftAttacks = simulation
+
+-- a game as one number
+abbrev pub gameNumber : Game → ℕ
+gameNumber BothAttack = 0
+gameNumber LeftAttacks = 1
+
+abbrev pub gameOf : ℕ → Game
+gameOf zero = BothAttack
+gameOf (suc n) = LeftAttacks

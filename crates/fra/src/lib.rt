@@ -2,7 +2,7 @@
 ghost use mathlib.Core.Path.{_≡_};
 ghost use Rattle.fra.specs.Registers.{has};
 ghost use Rattle.fra.specs.Model.{registerOf, kindNumber, kindOf, isKnown, isLocallyFresh, isFresh};
-ghost use Rattle.fra.specs.Rules.{other};
+ghost use Rattle.fra.specs.Rules.{other, isLeft, rulesOf, gameNumber, gameOf};
 ghost use Rattle.fra.specs.Position.{unmatched, stateOf, rightPartner, leftPartner, partner};
 
 // What an edge takes, with the register that it reads or writes.
@@ -231,6 +231,64 @@ impl Side {
         match self {
             Side::Left => Side::Right,
             Side::Right => Side::Left,
+        }
+    }
+
+    pub fn is_left(self) -> bool
+        ensures { λ r. ⌜ r ≡ isLeft self ⌝ }
+    {
+        match self {
+            Side::Left => true,
+            Side::Right => false,
+        }
+    }
+}
+
+// Which game is played: who attacks, and which end marks lose at once.
+pub enum Game {
+    // bisimulation
+    BothAttack,
+    // simulation of the left model by the right one
+    LeftAttacks,
+}
+
+impl Game {
+    // The side attacks.
+    pub fn attacks(self, side: Side) -> bool
+        ensures { λ r. ⌜ r ≡ rulesOf self .attacks side ⌝ }
+    {
+        match self {
+            Game::BothAttack => true,
+            Game::LeftAttacks => side.is_left(),
+        }
+    }
+
+    // These end marks lose at once.
+    pub fn loses(self, left: u8, right: u8) -> bool
+        ensures { λ r. ⌜ r ≡ rulesOf self .lost left right ⌝ }
+    {
+        match self {
+            Game::BothAttack => left != right,
+            Game::LeftAttacks => (left == 1) & (right == 0),
+        }
+    }
+
+    // The game as one number, and back.
+    pub fn number(self) -> u8
+        ensures { λ r. ⌜ r ≡ gameNumber self ⌝ }
+    {
+        match self {
+            Game::BothAttack => 0,
+            Game::LeftAttacks => 1,
+        }
+    }
+
+    pub fn of(number: u8) -> Game
+        ensures { λ r. ⌜ r ≡ gameOf number ⌝ }
+    {
+        match number {
+            0 => Game::BothAttack,
+            _ => Game::LeftAttacks,
         }
     }
 }

@@ -1,22 +1,20 @@
--- What is read of the bytes of an index: its models' states and edges, and the rules. Assumes nothing.
+-- What is read of the bytes of an index: its models' states and edges, and the game. Assumes nothing.
 use Prim.Native.Nat.{ℕ, _+_, _*_, _≤_, _<_}
-use mathlib.Core.Path.{_≡_, refl, _∙_, ap}
-use mathlib.Core.Bool.{Bool, false, _&&_, _||_, and-true, and-false, or-false}
+use mathlib.Core.Path.{_≡_, refl, ap}
+use mathlib.Core.Bool.{true}
 use mathlib.Core.List.{List}
 use native.Mathlib.Omega.{arith}
 use lib.ListN.{getD, List·getD-eq-default}
-use lib.Dec.{ltb}
-use borrow.Author.Tests.{lt-ltb, le-ltb}
 use Rattle.fra.specs.Model.{noState, noEdge, setOf, markOf, edgeOf}
-use Rattle.fra.specs.Rules.{modelOf}
-use Rattle.fra.specs.Game.{lostAtOnce}
+use Rattle.fra.specs.Rules.{modelOf, rulesOf}
 use Rattle.fra.specs.declared.State.{State}
-use Rattle.fra.specs.declared.Position.{Position}
 use Rattle.fra.specs.declared.Side.{Side}
 use Rattle.fra.specs.declared.Side.the-variants.{Left, Right}
+use Rattle.fra.specs.declared.Game.{Game}
+use Rattle.fra.specs.declared.Game.the-variants.{BothAttack, LeftAttacks}
 use Rattle.fra_laws.proofs.Legal.{valid-side}
-use Rattle.game_index.specs.Layout.{statesAt, statePlaces, stateWidth, edgePlaces, losesAt}
-use Rattle.game_index.specs.Reading.{sideByte, stateIn, edgeIn, modelIn, taskIn, flagIn, rulesIn}
+use Rattle.game_index.specs.Layout.{statesAt, statePlaces, stateWidth, edgePlaces}
+use Rattle.game_index.specs.Reading.{sideByte, stateIn, edgeIn, modelIn, taskIn, gameIn, rulesIn}
 use Rattle.game_index.specs.Writing.{Sized, IndexableModel, Index}
 use Rattle.fra_laws.proofs.ByPlace.{places-length, places-at}
 
@@ -76,23 +74,12 @@ module _ (b : List ℕ) (s : Side) where
   unfolding edgeOf
   no-edge k h = List·getD-eq-default (modelIn b s .edges) noEdge {n = k} (omega (arith, sized-in .edges))
 
--- ── The rules ──
+-- ── The game ──
 
--- end marks l and r lose at once by the flag of the side with the higher one
-module _ (b : List ℕ) (p : Position) (l r : ℕ) (e : l ≡ markOf (modelIn b Left) (p .left))
-    (f : r ≡ markOf (modelIn b Right) (p .right)) where
-  abbrev lost-at-once : Bool
-  lost-at-once = lostAtOnce (rulesIn b) (taskIn b) p
-
-  lost-in : lost-at-once ≡ ((flagIn b losesAt Left && ltb r l) || (flagIn b losesAt Right && ltb l r))
-  unfolding lostAtOnce taskIn rulesIn
-  lost-in = rw (← e, ← f)
-
-  pub lost-left : r < l → lost-at-once ≡ flagIn b losesAt Left
-  lost-left h = lost-in ∙ rw (lt-ltb r l h, le-ltb l r (omega arith), and-true, and-false, or-false)
-
-  pub lost-right : l < r → lost-at-once ≡ flagIn b losesAt Right
-  lost-right h = lost-in ∙ rw (le-ltb r l (omega arith), lt-ltb l r h, and-true, and-false)
-
-  pub lost-neither : l ≡ r → lost-at-once ≡ false
-  lost-neither h = lost-in ∙ simp (le-ltb r l (omega arith), le-ltb l r (omega arith), and-false)
+-- the left side attacks in every game
+pub left-attacks : (b : List ℕ) → rulesIn b .attacks Left ≡ true
+left-attacks b = of (gameIn b)
+  where
+    of : (g : Game) → rulesOf g .attacks Left ≡ true
+    of BothAttack = refl
+    of LeftAttacks = refl

@@ -1,4 +1,4 @@
--- Where the parts of an index stand: the left side's bytes, the right side's, the start, the rules.
+-- Where the parts of an index stand: the left side's bytes, the right side's, the start, the game.
 use Prim.Native.Nat.{ℕ}
 
 -- ── A side's bytes: "registers, states, start state", then its states, its edges, and the first edge of each code ──
@@ -75,13 +75,8 @@ sideWidth = 2597
 abbrev pub startAt : ℕ
 startAt = 5194
 
--- which sides attack, the left one first
-abbrev pub attacksAt : ℕ
-attacksAt = 5202
-
--- by which side's higher end mark a position is lost at once, the left side's first
-abbrev pub losesAt : ℕ
-losesAt = 5204
+abbrev pub gameAt : ℕ
+gameAt = 5202
 
 abbrev pub size : ℕ
-size = 5206
+size = 5203

@@ -1,12 +1,10 @@
--- The task and the rules that an index holds.
+-- The task and the game that an index holds.
 use Prim.Native.Nat.{ℕ, _+_, _*_}
-use mathlib.Core.Bool.{Bool, not, _&&_, _||_}
 use mathlib.Core.List.{List, map}
 use lib.ListN.{getD}
-use lib.Dec.{ltb, eqb}
 use Rattle.fra.specs.Lists.{count}
 use Rattle.fra.specs.Model.{kindOf}
-use Rattle.fra.specs.Rules.{Rules}
+use Rattle.fra.specs.Rules.{Rules, rulesOf, gameOf}
 use Rattle.fra.specs.declared.State.{State}
 use Rattle.fra.specs.declared.Edge.{Edge}
 use Rattle.fra.specs.declared.Model.{Model}
@@ -14,9 +12,10 @@ use Rattle.fra.specs.declared.Position.{Position}
 use Rattle.fra.specs.declared.Task.{Task}
 use Rattle.fra.specs.declared.Side.{Side}
 use Rattle.fra.specs.declared.Side.the-variants.{Left, Right}
+use Rattle.fra.specs.declared.Game.{Game}
 use Rattle.game_index.specs.Layout.{registersAt, beginAt, stateCountAt, edgeCountAt, statesAt, statePlaces, stateWidth}
 use Rattle.game_index.specs.Layout.{edgesAt, edgePlaces, edgeWidth, tagField, kindField, registerField, toField}
-use Rattle.game_index.specs.Layout.{sideWidth, startAt, attacksAt, losesAt}
+use Rattle.game_index.specs.Layout.{sideWidth, startAt, gameAt}
 
 -- byte i of a side
 abbrev pub sideByte : List ℕ → Side → ℕ → ℕ
@@ -63,16 +62,8 @@ startIn b =
 unfoldable pub taskIn : List ℕ → Task
 taskIn b = record { left = modelIn b Left; right = modelIn b Right; start = startIn b }
 
--- the byte of a side among the two from a place on is not 0
-abbrev pub flagIn : List ℕ → ℕ → Side → Bool
-flagIn b at Left = not (eqb (getD b at 0) 0)
-flagIn b at Right = not (eqb (getD b (at + 1) 0) 0)
+unfoldable pub gameIn : List ℕ → Game
+gameIn b = gameOf (getD b gameAt 0)
 
--- a side attacks if its flag says so; a position is lost at once where an end mark is higher than the other side's and its side's
--- flag says that this loses
-unfoldable pub rulesIn : List ℕ → Rules
-rulesIn b =
-    record {
-      attacks = flagIn b attacksAt;
-      lost = λ l r. (flagIn b losesAt Left && ltb r l) || (flagIn b losesAt Right && ltb l r);
-    }
+abbrev pub rulesIn : List ℕ → Rules
+rulesIn b = rulesOf (gameIn b)

@@ -1,14 +1,14 @@
 -- The bytes of an index, and what they give to those who read them.
 use Prim.Native.Nat.{ℕ, suc, _<_, _≤_, _+_}
 use mathlib.Core.Path.{_≡_}
-use mathlib.Core.Bool.{Bool, true, not, cond, _&&_}
+use mathlib.Core.Bool.{Bool, not, cond, _&&_}
 use mathlib.Core.List.{List, [], _∷_, _++_, map, flatMap}
 use lib.ListN.{length}
 use lib.Seq.{sets}
 use Rattle.fra.specs.Lists.{any, count}
 use Rattle.fra.specs.Registers.{has, with}
 use Rattle.fra.specs.Model.{setOf, edgeOf, edgeBytes, registerOf}
-use Rattle.fra.specs.Rules.{modelOf}
+use Rattle.fra.specs.Rules.{modelOf, gameNumber}
 use Rattle.fra.specs.Position.{bytes}
 use Rattle.fra.specs.Valid.{ValidModel, Valid}
 use Rattle.fra.specs.declared.State.{State}
@@ -16,9 +16,9 @@ use Rattle.fra.specs.declared.Edge.{Edge}
 use Rattle.fra.specs.declared.Model.{Model}
 use Rattle.fra.specs.declared.Task.{Task}
 use Rattle.fra.specs.declared.Side.{Side}
-use Rattle.fra.specs.declared.Side.the-variants.{Left}
+use Rattle.fra.specs.declared.Game.{Game}
 use Rattle.game_index.specs.Layout.{statePlaces, edgePlaces, tagPlaces, codes, firstsAt, toSetField, dropsField}
-use Rattle.game_index.specs.Reading.{sideByte, edgeByte, modelIn, taskIn, rulesIn}
+use Rattle.game_index.specs.Reading.{sideByte, edgeByte, modelIn, taskIn}
 use Rattle.game_index.specs.Ranges.{firstEdge}
 
 -- ── Bytes ──
@@ -49,9 +49,9 @@ sideBytes m =
     countBytes m
     ++ (flatMap stateBytes (m .states) ++ (flatMap (edgeEntry m) (m .edges) ++ map (firstEdge m) (count 0 (suc codes))))
 
--- the index of a task for bisimulation: both sides attack, and a higher end mark on either side loses
-unfoldable pub of : Task → List ℕ
-of t = sideBytes (t .left) ++ (sideBytes (t .right) ++ (bytes (t .start) ++ (1 ∷ 1 ∷ 1 ∷ 1 ∷ [])))
+-- the index of a task and a game
+unfoldable pub of : Task → Game → List ℕ
+of t g = sideBytes (t .left) ++ (sideBytes (t .right) ++ (bytes (t .start) ++ (gameNumber g ∷ [])))
 
 -- ── Tasks that have an index ──
 
@@ -79,20 +79,18 @@ pub record SidePut (m : Model) (at : ℕ) (old new : List ℕ) : Type 0 where
   pub sized : Sized m
   pub written : new ≡ sets old at (sideBytes m)
 
--- the bytes are the index of the task
-pub record Indexes (t : Task) (b : List ℕ) : Type 0 where
+-- the bytes are the index of the task and the game
+pub record Indexes (t : Task) (g : Game) (b : List ℕ) : Type 0 where
   pub indexable : Indexable t
   pub sized : (s : Side) → Sized (modelOf t s)
   pub partners : length (t .start .partners) ≡ 6
-  pub written : b ≡ of t
+  pub written : b ≡ of t g
 
 -- ── What a reader of an index relies on ──
 
--- the task in it is one that has an index, the left side attacks, as it does in every game, and what follows from the task is
--- written beside it
+-- the task in it is one that has an index, and what follows from the task is written beside it
 pub record Index (b : List ℕ) : Type 0 where
   pub indexable : Indexable (taskIn b)
-  pub attacked : rulesIn b .attacks Left ≡ true
   pub to-sets : (s : Side) (k : ℕ) → k < edgePlaces → edgeByte b s k toSetField ≡ setOf (modelIn b s) (edgeOf (modelIn b s) k .to)
   pub dropped : (s : Side) (k : ℕ) → k < edgePlaces → edgeByte b s k dropsField ≡ flag (drops (modelIn b s) (edgeOf (modelIn b s) k))
   pub firsts : (s : Side) (c : ℕ) → c ≤ codes → sideByte b s (firstsAt + c) ≡ firstEdge (modelIn b s) c

@@ -44,11 +44,9 @@ pub const FIRSTS: usize = EDGES + (Model::EDGES as usize) * EDGE;
 
 pub const SIDE: usize = FIRSTS + CODES + 1;
 
-// The start's position, the sides that attack, and the sides whose higher end mark loses the position at once.
+// The start's position, and the game's number.
 pub const START: usize = SIDE * 2;
 
-pub const ATTACKS: usize = START + Position::WIDTH;
+pub const GAME: usize = START + Position::WIDTH;
 
-pub const LOSES: usize = ATTACKS + 2;
-
-pub const SIZE: usize = LOSES + 2;
+pub const SIZE: usize = GAME + 1;

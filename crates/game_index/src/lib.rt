@@ -1,7 +1,8 @@
-// The index of a task: its models, its start and the rules of the game as bytes that are written once and read by reference, so
+// The index of a task: its models, its start and the game as bytes that are written once and read by reference, so
 // that no model is copied for a position or an edge.
 use fra::Edge;
 use fra::EdgeKind;
+use fra::Game;
 use fra::Model;
 use fra::Position;
 use fra::Side;
@@ -10,8 +11,8 @@ ghost use Prim.Native.Nat.{_+_, _≤_, _<_};
 ghost use mathlib.Core.Path.{_≡_};
 ghost use Rattle.fra.specs.Model.{setOf, markOf, edgeOf};
 ghost use Rattle.fra.specs.Game.{lostAtOnce};
-ghost use Rattle.game_index.specs.Layout.{codes, sideWidth, size};
-ghost use Rattle.game_index.specs.Reading.{sideByte, flagIn, modelIn, startIn, taskIn, rulesIn};
+ghost use Rattle.game_index.specs.Layout.{codes, sideWidth};
+ghost use Rattle.game_index.specs.Reading.{sideByte, modelIn, startIn, taskIn, gameIn, rulesIn};
 ghost use Rattle.game_index.specs.Ranges.{firstEdge, stateRange, tagRange};
 ghost use Rattle.game_index.specs.Writing.{Index};
 ghost use Rattle.game_index.specs.Transitions.{transitionOf};
@@ -44,17 +45,6 @@ fn byte_of(index: &[u8; layout::SIZE], side: Side, i: usize) -> u8
     match side {
         Side::Left => index[i],
         Side::Right => index[layout::SIDE + i],
-    }
-}
-
-// The flag of a side, of the two from a place on.
-fn flag_of(index: &[u8; layout::SIZE], at: usize, side: Side) -> bool
-    requires { ⌜ at + 1 < size ⌝ }
-    ensures { λ r. ⌜ r ≡ flagIn (now (index .entry)) at side ⌝ }
-{
-    match side {
-        Side::Left => index[at] != 0,
-        Side::Right => index[at + 1] != 0,
     }
 }
 
@@ -132,13 +122,20 @@ pub fn edge_at(index: &[u8; layout::SIZE], side: Side, k: u8) -> Edge
     }
 }
 
-// ── The rules ──
+// ── The game ──
+
+pub fn game(index: &[u8; layout::SIZE]) -> Game
+    ensures { λ r. ⌜ r ≡ gameIn (now (index .entry)) ⌝ }
+{
+    Game::of(index[layout::GAME])
+}
 
 // The side attacks.
 pub fn attacks(index: &[u8; layout::SIZE], side: Side) -> bool
     ensures { λ r. ⌜ r ≡ rulesIn (now (index .entry)) .attacks side ⌝ }
 {
-    flag_of(index, layout::ATTACKS, side)
+    let game = game(index);
+    game.attacks(side)
 }
 
 // The end marks lose at once.
@@ -147,13 +144,8 @@ pub fn lost_at_once(index: &[u8; layout::SIZE], p: Position) -> bool
 {
     let left = mark_of(index, Side::Left, p.left);
     let right = mark_of(index, Side::Right, p.right);
-    if right < left {
-        return flag_of(index, layout::LOSES, Side::Left);
-    }
-    if left < right {
-        return flag_of(index, layout::LOSES, Side::Right);
-    }
-    false
+    let game = game(index);
+    game.loses(left, right)
 }
 
 // ── What follows from the task and is written beside it ──

@@ -7,19 +7,20 @@ use lib.ListN.{length, getD, List·getD-append}
 use lib.Seq.{getD-append-add}
 use Rattle.fra.specs.Model.{noState, noEdge, edgeBytes}
 use Rattle.fra.specs.Position.{bytes}
-use Rattle.fra.specs.Rules.{modelOf}
+use Rattle.fra.specs.Rules.{modelOf, gameNumber}
 use Rattle.fra.specs.declared.Model.{Model}
 use Rattle.fra.specs.declared.Task.{Task}
 use Rattle.fra.specs.declared.Side.{Side}
 use Rattle.fra.specs.declared.Side.the-variants.{Left, Right}
-use Rattle.game_index.specs.Layout.{statesAt, statePlaces, stateWidth, edgesAt, edgePlaces, edgeWidth, codes, firstsAt, sideWidth, startAt, attacksAt}
+use Rattle.fra.specs.declared.Game.{Game}
+use Rattle.game_index.specs.Layout.{statesAt, statePlaces, stateWidth, edgesAt, edgePlaces, edgeWidth, codes, firstsAt, sideWidth, startAt, gameAt}
 use Rattle.game_index.specs.Reading.{sideByte}
 use Rattle.game_index.specs.Ranges.{firstEdge}
 use Rattle.game_index.specs.Writing.{stateBytes, edgeEntry, countBytes, sideBytes, of, Sized}
 use Rattle.fra_laws.proofs.ByPlace.{places-at}
 use Rattle.game_indexing.proofs.EqualStrings.{strings-at}
 use Rattle.game_indexing.proofs.IndexParts.{statesPart, edgesPart, firstsPart, fromEdges, fromStates, states-length, edges-length}
-use Rattle.game_indexing.proofs.IndexParts.{rules, SizedTask, fromStart, fromRight, left-length, right-length, start-length}
+use Rattle.game_indexing.proofs.IndexParts.{played, SizedTask, fromStart, fromRight, left-length, right-length, start-length}
 
 -- byte i behind n others
 behind : (a l : List ℕ) (n i : ℕ) → length a ≡ n → getD (a ++ l) (n + i) 0 ≡ getD l i 0
@@ -60,27 +61,25 @@ module _ (m : Model) (sized : Sized m) where
 
 -- ── The whole ──
 
-module _ (t : Task) (sized : SizedTask t) where
-  after-left : (i : ℕ) → getD (of t) (sideWidth + i) 0 ≡ getD (fromRight t) i 0
+module _ (t : Task) (g : Game) (sized : SizedTask t) where
+  after-left : (i : ℕ) → getD (of t g) (sideWidth + i) 0 ≡ getD (fromRight t g) i 0
   unfolding of
-  after-left i = behind (sideBytes (t .left)) (fromRight t) sideWidth i (left-length t sized)
+  after-left i = behind (sideBytes (t .left)) (fromRight t g) sideWidth i (left-length t g sized)
 
-  after-right : (i : ℕ) → getD (of t) (startAt + i) 0 ≡ getD (fromStart t) i 0
+  after-right : (i : ℕ) → getD (of t g) (startAt + i) 0 ≡ getD (fromStart t g) i 0
   after-right i =
       let place : startAt + i ≡ sideWidth + (sideWidth + i) = omega arith in
       rw place
-      (after-left (sideWidth + i) ∙ behind (sideBytes (t .right)) (fromStart t) sideWidth i (right-length t sized))
+      (after-left (sideWidth + i) ∙ behind (sideBytes (t .right)) (fromStart t g) sideWidth i (right-length t g sized))
 
-  pub side-byte : (s : Side) (i : ℕ) → i < sideWidth → sideByte (of t) s i ≡ getD (sideBytes (modelOf t s)) i 0
+  pub side-byte : (s : Side) (i : ℕ) → i < sideWidth → sideByte (of t g) s i ≡ getD (sideBytes (modelOf t s)) i 0
   unfolding of
-  side-byte Left i h = List·getD-append (sideBytes (t .left)) (fromRight t) 0 i (omega (arith, left-length t sized))
+  side-byte Left i h = List·getD-append (sideBytes (t .left)) (fromRight t g) 0 i (omega (arith, left-length t g sized))
   side-byte Right i h =
-      after-left i ∙ List·getD-append (sideBytes (t .right)) (fromStart t) 0 i (omega (arith, right-length t sized))
+      after-left i ∙ List·getD-append (sideBytes (t .right)) (fromStart t g) 0 i (omega (arith, right-length t g sized))
 
-  pub start-byte : (i : ℕ) → i < 8 → getD (of t) (startAt + i) 0 ≡ getD (bytes (t .start)) i 0
-  start-byte i h = after-right i ∙ List·getD-append (bytes (t .start)) rules 0 i (omega (arith, start-length t sized))
+  pub start-byte : (i : ℕ) → i < 8 → getD (of t g) (startAt + i) 0 ≡ getD (bytes (t .start)) i 0
+  start-byte i h = after-right i ∙ List·getD-append (bytes (t .start)) (played t g) 0 i (omega (arith, start-length t g sized))
 
-  pub rule-byte : (i : ℕ) → i < 4 → getD (of t) (attacksAt + i) 0 ≡ getD rules i 0
-  rule-byte i h =
-      let place : attacksAt + i ≡ startAt + (8 + i) = omega arith in
-      rw place (after-right (8 + i) ∙ behind (bytes (t .start)) rules 8 i (omega (arith, start-length t sized)))
+  pub game-byte : getD (of t g) gameAt 0 ≡ gameNumber g
+  game-byte = after-right 8 ∙ behind (bytes (t .start)) (played t g) 8 0 (omega (arith, start-length t g sized))

@@ -8,13 +8,14 @@ use lib.Seq.{sets, sets-eq}
 use Rattle.fra.specs.Lists.{count}
 use Rattle.fra.specs.Model.{edgeBytes}
 use Rattle.fra.specs.Position.{bytes}
-use Rattle.fra.specs.Rules.{modelOf}
+use Rattle.fra.specs.Rules.{modelOf, gameNumber}
 use Rattle.fra.specs.declared.Model.{Model}
 use Rattle.fra.specs.declared.Task.{Task}
 use Rattle.fra.specs.declared.Side.{Side}
 use Rattle.fra.specs.declared.Side.the-variants.{Left, Right}
+use Rattle.fra.specs.declared.Game.{Game}
 use Rattle.fra_laws.proofs.Lengths.{flatMap-length}
-use Rattle.game_index.specs.Layout.{statesAt, edgesAt, codes, firstsAt, sideWidth, startAt, attacksAt, size}
+use Rattle.game_index.specs.Layout.{statesAt, edgesAt, codes, firstsAt, sideWidth, startAt, gameAt, size}
 use Rattle.game_index.specs.Ranges.{firstEdge}
 use Rattle.game_index.specs.Writing.{stateBytes, edgeEntry, countBytes, sideBytes, of, Sized}
 use Rattle.fra_laws.proofs.ByPlace.{places-length}
@@ -64,19 +65,19 @@ module _ (m : Model) where
         ∙ sets-behind counts (at + statesAt) statesPart fromEdges (at + edgesAt) (omega (arith, states-length))
         ∙ sets-behind old at (countBytes m) fromStates (at + statesAt) refl
 
--- ── The whole: left side, right side, start, rules ──
-
-abbrev pub rules : List ℕ
-rules = 1 ∷ 1 ∷ 1 ∷ 1 ∷ []
+-- ── The whole: left side, right side, start, game ──
 
 -- the arrays of a task have their declared lengths
 pub record SizedTask (t : Task) : Type 0 where
   pub sides : (s : Side) → Sized (modelOf t s)
   pub partners : length (t .start .partners) ≡ 6
 
-module _ (t : Task) where
+module _ (t : Task) (g : Game) where
+  abbrev pub played : List ℕ
+  played = gameNumber g ∷ []
+
   abbrev pub fromStart : List ℕ
-  fromStart = bytes (t .start) ++ rules
+  fromStart = bytes (t .start) ++ played
 
   abbrev pub fromRight : List ℕ
   fromRight = sideBytes (t .right) ++ fromStart
@@ -88,24 +89,24 @@ module _ (t : Task) where
     pub right-length : length (sideBytes (t .right)) ≡ sideWidth
     right-length = side-length (t .right) (sized .sides Right)
 
-    pub start-length : startAt + length (bytes (t .start)) ≡ attacksAt
+    pub start-length : startAt + length (bytes (t .start)) ≡ gameAt
     unfolding bytes
     start-length = omega (arith, sized .partners)
 
-    of-length : length (of t) ≡ size
+    of-length : length (of t g) ≡ size
     unfolding of
     of-length = simp length-append (omega (arith, left-length, right-length, start-length))
 
     pub of-written : (old : List ℕ) → length old ≡ size
         → let left = sets old 0 (sideBytes (t .left)) in
         let right = sets left sideWidth (sideBytes (t .right)) in
-        sets (sets right startAt (bytes (t .start))) attacksAt rules ≡ of t
+        sets (sets right startAt (bytes (t .start))) gameAt played ≡ of t g
     unfolding of
     of-written old long =
         let left = sets old 0 (sideBytes (t .left)) in
         let right = sets left sideWidth (sideBytes (t .right)) in
-        sets-behind right startAt (bytes (t .start)) rules attacksAt (omega (arith, start-length))
+        sets-behind right startAt (bytes (t .start)) played gameAt (omega (arith, start-length))
         ∙ sets-behind left sideWidth (sideBytes (t .right)) fromStart startAt (omega (arith, right-length))
         ∙ sets-behind old 0 (sideBytes (t .left)) fromRight sideWidth (omega (arith, left-length))
-        ∙ sets-eq (of t) old 0 (omega (arith, of-length))
-        ∙ rw (drop-of-length-le old {i = 0 + length (of t)} (omega (arith, of-length))) (append-nil (of t))
+        ∙ sets-eq (of t g) old 0 (omega (arith, of-length))
+        ∙ rw (drop-of-length-le old {i = 0 + length (of t g)} (omega (arith, of-length))) (append-nil (of t g))

@@ -1,5 +1,6 @@
 // Writes the index of a task, part by part.
 use fra::Edge;
+use fra::Game;
 use fra::Model;
 use fra::Position;
 use fra::State;
@@ -16,7 +17,7 @@ ghost use Rattle.fra.specs.Lists.{any, count};
 ghost use Rattle.fra.specs.Registers.{has, with};
 ghost use Rattle.fra.specs.Model.{noState};
 ghost use Rattle.fra.specs.Position.{bytes};
-ghost use Rattle.game_index.specs.Layout.{statesAt, statePlaces, stateWidth, edgePlaces, edgeWidth, codes, sideWidth, startAt, attacksAt, size};
+ghost use Rattle.game_index.specs.Layout.{statesAt, statePlaces, stateWidth, edgePlaces, edgeWidth, codes, sideWidth, startAt, size};
 ghost use Rattle.game_index.specs.Ranges.{edgeCode, firstEdge};
 ghost use Rattle.game_index.specs.Writing.{stateBytes, entryOf, edgeEntry, countBytes, IndexableModel, SidePut, Indexable, Indexes};
 
@@ -170,22 +171,15 @@ fn put_start(out: &mut [u8; layout::SIZE], p: Position)
     put_four(out, layout::START + 4, a[2], a[3], a[4], a[5]);
 }
 
-// Writes the rules of bisimulation: both sides attack, and a higher end mark of either side loses.
-fn put_rules(out: &mut [u8; layout::SIZE])
-    ensures { λ _. ⌜ now (out .exit) ≡ sets (now (out .entry)) attacksAt (1 ∷ 1 ∷ 1 ∷ 1 ∷ []) ⌝ }
-{
-    put_four(out, layout::ATTACKS, 1, 1, 1, 1);
-}
-
-// The index of a task for bisimulation.
-pub fn of(t: Task) -> [u8; layout::SIZE]
+// The index of a task and a game.
+pub fn of(t: Task, game: Game) -> [u8; layout::SIZE]
     requires { ⌜ Indexable t ⌝ }
-    ensures { λ r. ⌜ Indexes t r ⌝ }
+    ensures { λ r. ⌜ Indexes t game r ⌝ }
 {
     let mut out = [0u8; layout::SIZE];
     put_side(&mut out, 0, t.left);
     put_side(&mut out, layout::SIDE, t.right);
     put_start(&mut out, t.start);
-    put_rules(&mut out);
+    out[layout::GAME] = game.number();
     out
 }

@@ -20,6 +20,7 @@ use Rattle.outcome.specs.Compare.{capacity}
 use Rattle.outcome.specs.Conditions.{Accepts}
 use Rattle.outcome.specs.Listed.{Led}
 use Rattle.outcome.specs.Check.{positionOf, keptLength, lossLength}
+use Rattle.outcome.specs.declared.Standing.the-variants.{Kept, Lost}
 use Rattle.outcome.specs.declared.Verdict.{Verdict}
 
 -- 11: "The positions reached outnumber the table's entries."
@@ -31,17 +32,17 @@ pub record TableTooSmall (g : Rules) (t : Task) (table : List ℕ) : Type 0 wher
 
 -- 12: "The certificate is longer than its buffer." It has a record "for every reached position never lost" where the start is
 -- never lost, and otherwise for "the start and all positions that its attacks lead to".
-pub data CertificateTooLong (c : Contest) (t : Task) (buffer : List ℕ) : Type 0 where
-  kept-too-long : NeverLost (c .rules) t (t .start)
+pub data CertificateTooLong (g : Rules) (t : Task) (buffer : List ℕ) : Type 0 where
+  kept-too-long : NeverLost g t (t .start)
       → (positions : List Position) → Unique positions
-      → ((p : Position) → p ∈ positions → Reached (c .rules) t p × NeverLost (c .rules) t p)
-      → length buffer < length positions * widthOf (c .kept)
-      → CertificateTooLong c t buffer
-  lost-too-long : (n : ℕ) → lostWithin (c .rules) t n (t .start) ≡ true
+      → ((p : Position) → p ∈ positions → Reached g t p × NeverLost g t p)
+      → length buffer < length positions * widthOf Kept
+      → CertificateTooLong g t buffer
+  lost-too-long : (n : ℕ) → lostWithin g t n (t .start) ≡ true
       → (positions : List Position) → Unique positions
-      → ((p : Position) → p ∈ positions → Led (c .rules) t p)
-      → length buffer < length positions * widthOf (c .lost)
-      → CertificateTooLong c t buffer
+      → ((p : Position) → p ∈ positions → Led g t p)
+      → length buffer < length positions * widthOf Lost
+      → CertificateTooLong g t buffer
 
 -- ── 13: "A proposed certificate has an unknown kind, two kinds, a cut body, an illegal position, or does not rise strictly by
 -- position." ──
@@ -93,7 +94,7 @@ ComparerRefuses c file table buffer n =
     TurnedBack n file
     ⊎ IsRead file
     × (((n ≡ 11) × TableTooSmall (c .rules) (taskOf file) table)
-    ⊎ (n ≡ 12) × (TableTooSmall (c .rules) (taskOf file) table → ⊥) × CertificateTooLong c (taskOf file) buffer)
+    ⊎ (n ≡ 12) × (TableTooSmall (c .rules) (taskOf file) table → ⊥) × CertificateTooLong (c .rules) (taskOf file) buffer)
 
 -- the case that is named for refusal n of the checker
 unfoldable pub CheckerRefuses : Contest → List ℕ → List ℕ → ℕ → Type 0

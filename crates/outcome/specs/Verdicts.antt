@@ -1,8 +1,12 @@
 -- Verdicts and answers, with 01's numbers for each of their cases.
 use Prim.Native.Nat.{ℕ}
-use Rattle.fra.specs.Rules.{Rules, bisimulation}
+use Rattle.fra.specs.Rules.{Rules, rulesOf}
+use Rattle.fra.specs.declared.Game.{Game}
+use Rattle.fra.specs.declared.Game.the-variants.{BothAttack, LeftAttacks}
+use Rattle.outcome.specs.declared.Standing.{Standing}
+use Rattle.outcome.specs.declared.Standing.the-variants.{Kept, Lost}
 use Rattle.outcome.specs.declared.Verdict.{Verdict}
-use Rattle.outcome.specs.declared.Verdict.the-variants.{Equal, Differ}
+use Rattle.outcome.specs.declared.Verdict.the-variants.{Equal, Differ, Follows, FallsShort}
 use Rattle.outcome.specs.declared.Comparison.{Comparison}
 use Rattle.outcome.specs.declared.Comparison.the-variants.{Decided, Refused}
 use Rattle.outcome.specs.declared.Check.{Check}
@@ -14,18 +18,42 @@ pub record Contest : Type 0 where
   pub kept : Verdict
   pub lost : Verdict
 
-abbrev pub equality : Contest
-equality = record { rules = bisimulation; kept = Equal; lost = Differ }
+-- the verdict of a game by how the start stands: "EQUAL", "DIFFER"; 02, ticket 1: "The verdicts are FOLLOWS and FALLS SHORT"
+abbrev pub verdictOf : Game → Standing → Verdict
+verdictOf BothAttack Kept = Equal
+verdictOf BothAttack Lost = Differ
+verdictOf LeftAttacks Kept = Follows
+verdictOf LeftAttacks Lost = FallsShort
 
--- the kind byte of a verdict's certificate records: "EQUAL: kind 16", "DIFFER: kind 17"
+abbrev pub contestOf : Game → Contest
+contestOf g = record { rules = rulesOf g; kept = verdictOf g Kept; lost = verdictOf g Lost }
+
+-- the comparison of 01, and "a one-way comparison where only the left side attacks"
+abbrev pub equality : Contest
+equality = contestOf BothAttack
+
+abbrev pub oneWay : Contest
+oneWay = contestOf LeftAttacks
+
+-- how the start stands by a verdict
+abbrev pub standingOf : Verdict → Standing
+standingOf Equal = Kept
+standingOf Differ = Lost
+standingOf Follows = Kept
+standingOf FallsShort = Lost
+
+-- the kind byte of a verdict's certificate records: "EQUAL: kind 16", "DIFFER: kind 17"; "certificates of kinds 18 and 19"
 abbrev pub kindOf : Verdict → ℕ
 kindOf Equal = 16
 kindOf Differ = 17
+kindOf Follows = 18
+kindOf FallsShort = 19
 
--- the bytes of such a record: "kind 16, position, 9 bytes each", "kind 17, position, .. 16 bytes each"
-abbrev pub widthOf : Verdict → ℕ
-widthOf Equal = 9
-widthOf Differ = 16
+-- the bytes of such a record: "kind 16, position, 9 bytes each", "kind 17, position, .. 16 bytes each"; 18 and 19 are "laid out as
+-- 16 and 17"
+abbrev pub widthOf : Standing → ℕ
+widthOf Kept = 9
+widthOf Lost = 16
 
 -- The numbers that a call returns. A verdict's number is its certificate's kind.
 pub record Values : Type 0 where

@@ -23,12 +23,16 @@ pub const CASE: usize = EDGE + 1;
 
 pub const ROUNDS: usize = CASE + 1;
 
-// Records of positions that are never lost.
-pub const KEPT_KIND: u8 = 16;
-
+// Records of positions that are never lost, and of positions that are lost.
 pub const KEPT_WIDTH: usize = SIDE;
 
-// Records of positions that are lost.
-pub const LOST_KIND: u8 = 17;
-
 pub const LOST_WIDTH: usize = ROUNDS + WORD;
+
+// The kinds of records, by the verdict.
+pub const EQUAL_KIND: u8 = 16;
+
+pub const DIFFER_KIND: u8 = 17;
+
+pub const FOLLOWS_KIND: u8 = 18;
+
+pub const FALLS_SHORT_KIND: u8 = 19;

@@ -24,6 +24,7 @@ use Rattle.outcome.specs.Verdicts.{Contest, kindOf, widthOf}
 use Rattle.outcome.specs.Certificate.{keptRecord, keptPositions, placeOf, lossRecord, losses, certificateBy}
 use Rattle.outcome.specs.Check.{keptLength, lossLength}
 use Rattle.outcome.specs.Refusals.{CertificateTooLong, kept-too-long, lost-too-long}
+use Rattle.outcome.specs.declared.Standing.the-variants.{Kept, Lost}
 use Rattle.outcome_laws.proofs.Encoding.{position-length, loss-length}
 use Rattle.outcome_laws.proofs.WrittenLists.{rounds-never, rounds-least, kept-exactly, kept-rising, listed, listed-computes, led-exactly, losses-places, loss-reached}
 
@@ -42,50 +43,50 @@ module _ {r : ℕ} {t : Task} (valid : Valid r t) (c : Contest) where
   partners-long : (p : Position) → p ∈ reached g t → length (p .partners) ≡ r
   partners-long p m = legal-facts r t p (reached-legal valid g p m) .long
 
-  module _ (kept-wide : widthOf (c .kept) ≡ suc (keptLength r)) (lost-wide : widthOf (c .lost) ≡ suc (lossLength r)) where
-    kept-length : length (certificateBy c t none) ≡ length (keptPositions g t) * widthOf (c .kept)
+  module _ (kept-wide : widthOf Kept ≡ suc (keptLength r)) (lost-wide : widthOf Lost ≡ suc (lossLength r)) where
+    kept-length : length (certificateBy c t none) ≡ length (keptPositions g t) * widthOf Kept
     unfolding certificateBy keptRecord
     kept-length =
-        flatMap-length (keptRecord (kindOf (c .kept))) (keptPositions g t) (widthOf (c .kept))
+        flatMap-length (keptRecord (kindOf (c .kept))) (keptPositions g t) (widthOf Kept)
         (λ p m.
         let b = position-length r p (partners-long p (reached-exactly valid g p .1 (kept-exactly valid g p .0 m .0))) in omega arith)
 
-    losses-length : (n : ℕ) → length (certificateBy c t (some n)) ≡ length (listed valid g) * widthOf (c .lost)
+    losses-length : (n : ℕ) → length (certificateBy c t (some n)) ≡ length (listed valid g) * widthOf Lost
     unfolding certificateBy lossRecord
     losses-length n =
-        flatMap-length (lossRecord (kindOf (c .lost))) (losses g t) (widthOf (c .lost))
+        flatMap-length (lossRecord (kindOf (c .lost))) (losses g t) (widthOf Lost)
         (λ x m. let b = loss-length r x (partners-long (x .position) (loss-reached valid g x m)) in omega arith)
         ∙ rw (← losses-places valid g, length-map (losses g t) placeOf)
 
     -- refusal 12 in its case
     pub too-long-exactly : (buffer : List ℕ)
-        → CertificateTooLong c t buffer ↔ (length buffer < length (certificateBy c t (rounds g t (t .start))))
+        → CertificateTooLong (c .rules) t buffer ↔ (length buffer < length (certificateBy c t (rounds g t (t .start))))
     too-long-exactly buffer = by (rounds g t (t .start)) refl
       where
         by : (o : Option ℕ) → rounds g t (t .start) ≡ o
-            → CertificateTooLong c t buffer ↔ (length buffer < length (certificateBy c t (rounds g t (t .start))))
+            → CertificateTooLong (c .rules) t buffer ↔ (length buffer < length (certificateBy c t (rounds g t (t .start))))
         by none e = rw (e, kept-length) (to, from)
           where
             never : NeverLost g t (t .start)
             never = rounds-never valid g .0 e
 
-            to : CertificateTooLong c t buffer → length buffer < length (keptPositions g t) * widthOf (c .kept)
+            to : CertificateTooLong (c .rules) t buffer → length buffer < length (keptPositions g t) * widthOf Kept
             to (kept-too-long _ positions u h more) =
-                outnumbered (keptPositions g t) (λ p. kept-exactly valid g p .1) (widthOf (c .kept)) (length buffer) positions u h more
+                outnumbered (keptPositions g t) (λ p. kept-exactly valid g p .1) (widthOf Kept) (length buffer) positions u h more
             to (lost-too-long n lost positions u h more) = absurd (not-both _ lost (never n))
 
-            from : length buffer < length (keptPositions g t) * widthOf (c .kept) → CertificateTooLong c t buffer
+            from : length buffer < length (keptPositions g t) * widthOf Kept → CertificateTooLong (c .rules) t buffer
             from more =
                 kept-too-long never (keptPositions g t) (rising-unique (keptPositions g t) (kept-rising valid g))
                 (λ p. kept-exactly valid g p .0) more
         by (some n) e = rw (e, losses-length n) (to, from)
           where
-            to : CertificateTooLong c t buffer → length buffer < length (listed valid g) * widthOf (c .lost)
+            to : CertificateTooLong (c .rules) t buffer → length buffer < length (listed valid g) * widthOf Lost
             to (kept-too-long never positions u h more) = absurd (not-both _ (rounds-least valid g n e .0 .lost) (never n))
             to (lost-too-long _ lost positions u h more) =
-                outnumbered (listed valid g) (λ p. led-exactly valid g p .1) (widthOf (c .lost)) (length buffer) positions u h more
+                outnumbered (listed valid g) (λ p. led-exactly valid g p .1) (widthOf Lost) (length buffer) positions u h more
 
-            from : length buffer < length (listed valid g) * widthOf (c .lost) → CertificateTooLong c t buffer
+            from : length buffer < length (listed valid g) * widthOf Lost → CertificateTooLong (c .rules) t buffer
             from more =
                 lost-too-long n (rounds-least valid g n e .0 .lost) (listed valid g)
                 (rising-unique (listed valid g) (listed-computes valid g .rising))

@@ -19,6 +19,7 @@ use Rattle.outcome.specs.Verdicts.{Contest, widthOf}
 use Rattle.outcome.specs.Certificate.{entries, certificateBy}
 use Rattle.outcome.specs.Compare.{Outcome, capacity, decided, refusedLate, judge, compareTask}
 use Rattle.outcome.specs.Check.{keptLength, lossLength}
+use Rattle.outcome.specs.declared.Standing.the-variants.{Kept, Lost}
 use Rattle.outcome.specs.declared.Comparison.the-variants.{Decided, Refused}
 use Rattle.outcome.specs.declared.Verdict.{Verdict}
 use Rattle.outcome.specs.Refusals.{TableTooSmall, CertificateTooLong}
@@ -152,15 +153,15 @@ module _ (c : Contest) (t : Task) (table buffer : List ℕ) where
     abbrev pub Late : ℕ → Type 0
     Late n =
         ((n ≡ 11) × TableTooSmall (c .rules) t table)
-        ⊎ (n ≡ 12) × (TableTooSmall (c .rules) t table → ⊥) × CertificateTooLong c t buffer
+        ⊎ (n ≡ 12) × (TableTooSmall (c .rules) t table → ⊥) × CertificateTooLong (c .rules) t buffer
 
     -- where records are as wide as those of r registers
-    pub refused-exactly : widthOf (c .kept) ≡ suc (keptLength r) → widthOf (c .lost) ≡ suc (lossLength r)
+    pub refused-exactly : widthOf Kept ≡ suc (keptLength r) → widthOf Lost ≡ suc (lossLength r)
         → (n : ℕ) → (compareTask c t table buffer .answer ≡ Refused n) ↔ Late n
     unfolding refusedLate
     refused-exactly kept-wide lost-wide n = (to compared, from compared)
       where
-        long-exactly : CertificateTooLong c t buffer ↔ (length buffer < length written)
+        long-exactly : CertificateTooLong (c .rules) t buffer ↔ (length buffer < length written)
         long-exactly = too-long-exactly valid c kept-wide lost-wide buffer
 
         to : {o : Outcome} → Compared o → o .answer ≡ Refused n → Late n

@@ -3,7 +3,7 @@ use mathlib.Core.Path.{_≡_, refl}
 use mathlib.Core.Bool.{true}
 use mathlib.Core.List.{List}
 use Rattle.fra.specs.Lists.{all}
-use Rattle.outcome_marked.specs.MarkedCases.{Case, markedCases, furtherCases, met}
+use Rattle.outcome_marked.specs.MarkedCases.{Case, markedCases, furtherCases, oneWayCases, met}
 
 abbrev pub AllMet : List Case → Type 0
 AllMet l = all met l ≡ true
@@ -17,3 +17,8 @@ marked-cases = refl
 pub further-cases : AllMet furtherCases
 unfolding all met furtherCases
 further-cases = refl
+
+-- those of the one-way comparison
+pub one-way-cases : AllMet oneWayCases
+unfolding all met oneWayCases
+one-way-cases = refl

@@ -6,12 +6,14 @@ use mathlib.Core.List.{List, [], _∷_, _++_, flatMap}
 use mathlib.Core.Option.{Option, none, some}
 use lib.ListN.{replicate}
 use lib.Dec.{eqb}
-use Rattle.outcome.specs.Verdicts.{equality, Values, valuesOf}
+use Rattle.outcome.specs.Verdicts.{contestOf, Values, valuesOf}
+use Rattle.fra.specs.declared.Game.{Game}
+use Rattle.fra.specs.declared.Game.the-variants.{BothAttack, LeftAttacks}
 use Rattle.fra.specs.Lists as Lists
 use Rattle.fra.specs.Registers as Registers
 use Rattle.fra.specs.Model as Model
 use Rattle.fra.specs.Position as Position
-use Rattle.fra.specs.Game as Game
+use Rattle.fra.specs.Game as Play
 use Rattle.fra.specs.Reach as Reach
 use Rattle.task.specs.TaskFile as TaskFile
 use Rattle.outcome.specs.Bytes as Bytes
@@ -23,9 +25,10 @@ pub record Buffers : Type 0 where
   pub table : List ℕ
   pub certificate : List ℕ
 
--- a call of the comparer with buffers of these lengths, the numbers that it must return and, where stated, the bytes that it
--- must leave
+-- a call of the comparer by a game with buffers of these lengths, the numbers that it must return and, where stated, the bytes
+-- that it must leave
 pub record Case : Type 0 where
+  pub game : Game
   pub file : List ℕ
   pub table : ℕ
   pub buffer : ℕ
@@ -38,6 +41,13 @@ equals positions length = record { refusal = 0; verdict = 16; positions = positi
 abbrev pub differs : ℕ → ℕ → ℕ → Values
 differs positions rounds length =
     record { refusal = 0; verdict = 17; positions = positions; rounds = rounds; length = length }
+
+abbrev pub follows : ℕ → ℕ → Values
+follows positions length = record { refusal = 0; verdict = 18; positions = positions; rounds = 0; length = length }
+
+abbrev pub fallsShort : ℕ → ℕ → ℕ → Values
+fallsShort positions rounds length =
+    record { refusal = 0; verdict = 19; positions = positions; rounds = rounds; length = length }
 
 abbrev pub refuses : ℕ → Values
 refuses n = record { refusal = n; verdict = 0; positions = 0; rounds = 0; length = 0 }
@@ -210,15 +220,21 @@ end = 0x0f ∷ []
 
 -- a call with room to spare: eight entries and five spare bytes, 100 bytes for the certificate
 abbrev pub call : List ℕ → Values → Case
-call file expected = record { file = file; table = 101; buffer = 100; expected = expected; left-behind = none }
+call file expected =
+    record { game = BothAttack; file = file; table = 101; buffer = 100; expected = expected; left-behind = none }
+
+abbrev pub callOneWay : List ℕ → Values → Case
+callOneWay file expected =
+    record { game = LeftAttacks; file = file; table = 101; buffer = 100; expected = expected; left-behind = none }
 
 abbrev pub lending : ℕ → ℕ → List ℕ → Values → Case
 lending table buffer file expected =
-    record { file = file; table = table; buffer = buffer; expected = expected; left-behind = none }
+    record { game = BothAttack; file = file; table = table; buffer = buffer; expected = expected; left-behind = none }
 
 abbrev pub leaving : List ℕ → List ℕ → List ℕ → Values → Case
 leaving table certificate file expected =
     record {
+      game = BothAttack;
       file = file;
       table = 101;
       buffer = 100;
@@ -299,6 +315,16 @@ furtherCases =
     ∷ call (returning ++ returning-other ++ (0x04 ∷ 0x01 ∷ 0x01 ∷ end)) (differs 8 3 48)
     ∷ []
 
+-- 02, ticket 1: "Case 11 gives FALLS SHORT in 2 rounds, and FOLLOWS with the sides exchanged."
+unfoldable pub oneWayCases : List Case
+oneWayCases =
+    callOneWay (fork-late ++ fork-early ++ (0x04 ∷ 0x01 ∷ 0x01 ∷ end)) (fallsShort 4 2 48)
+    ∷ callOneWay (fork-early ++ fork-late ++ (0x04 ∷ 0x01 ∷ 0x01 ∷ end)) (follows 4 36)
+    -- no edges, end marks 0 and 1, and 1 and 0
+    ∷ callOneWay (marked-0 ++ marked-1 ++ end) (follows 1 9)
+    ∷ callOneWay (marked-1 ++ marked-0 ++ end) (fallsShort 1 0 16)
+    ∷ []
+
 -- ── What a case is held to ──
 
 unfoldable pub sameValues : Values → Values → Bool
@@ -315,8 +341,8 @@ sameBuffers o (some b) = Lists.equal (o .table) (b .table) && Lists.equal (o .ce
 
 -- the outcome of a case; the lent buffers hold other bytes at entry
 unfoldable pub outcome : Case → Compare.Outcome
-unfolding flatMap Lists.any Lists.all Lists.keep Lists.first Lists.count Lists.least Lists.below Lists.equal Registers.has Registers.inside Registers.with Model.setOf Model.markOf Model.edgeOf Model.edgeBytes Position.rightPartner Position.leftPartner Position.partner Position.matching Position.legal Position.bytes Position.before Game.hasCase Game.isAttack Game.cases Game.named Game.attacks Game.answers Game.isReply Game.replies Game.rejoined Game.remaining Game.matched Game.moved Game.after Game.lostAtOnce Game.lostWithin Reach.successors Reach.insert Reach.grown Reach.closed Reach.enough Reach.reached Reach.rank Reach.rounds TaskFile.noModel TaskFile.noTask TaskFile.atStart TaskFile.headerRefusal TaskFile.headed TaskFile.withHeader TaskFile.headerAt TaskFile.stateRefusal TaskFile.withState TaskFile.afterState TaskFile.stateAt TaskFile.edgeOfBody TaskFile.edgeExists TaskFile.keepsRule TaskFile.rises TaskFile.edgeRefusal TaskFile.withEdge TaskFile.edgeAt TaskFile.rising TaskFile.pairRefusal TaskFile.withPair TaskFile.pairAt TaskFile.endAt TaskFile.header TaskFile.state TaskFile.edge TaskFile.pair TaskFile.end TaskFile.recordKind TaskFile.bodyLength TaskFile.step TaskFile.atEnd TaskFile.readRest TaskFile.readTask Bytes.word Bytes.wordAt Bytes.cleared Bytes.thenZeros Bytes.thenRest Certificate.entry Certificate.entries Certificate.keptRecord Certificate.keptPositions Certificate.lossRecord Certificate.wins Certificate.chosen Certificate.attackOf Certificate.attackLeads Certificate.lossStep Certificate.lossWith Certificate.lossOf Certificate.losses Certificate.certificateBy Compare.capacity Compare.decided Compare.refusedLate Compare.judge Compare.compareTask Compare.compareRead Compare.compare
-outcome c = Compare.compare equality (c .file) (replicate (c .table) 170) (replicate (c .buffer) 85)
+unfolding flatMap Lists.any Lists.all Lists.keep Lists.first Lists.count Lists.least Lists.below Lists.equal Registers.has Registers.inside Registers.with Model.setOf Model.markOf Model.edgeOf Model.edgeBytes Position.rightPartner Position.leftPartner Position.partner Position.matching Position.legal Position.bytes Position.before Play.hasCase Play.isAttack Play.cases Play.named Play.attacks Play.answers Play.isReply Play.replies Play.rejoined Play.remaining Play.matched Play.moved Play.after Play.lostAtOnce Play.lostWithin Reach.successors Reach.insert Reach.grown Reach.closed Reach.enough Reach.reached Reach.rank Reach.rounds TaskFile.noModel TaskFile.noTask TaskFile.atStart TaskFile.headerRefusal TaskFile.headed TaskFile.withHeader TaskFile.headerAt TaskFile.stateRefusal TaskFile.withState TaskFile.afterState TaskFile.stateAt TaskFile.edgeOfBody TaskFile.edgeExists TaskFile.keepsRule TaskFile.rises TaskFile.edgeRefusal TaskFile.withEdge TaskFile.edgeAt TaskFile.rising TaskFile.pairRefusal TaskFile.withPair TaskFile.pairAt TaskFile.endAt TaskFile.header TaskFile.state TaskFile.edge TaskFile.pair TaskFile.end TaskFile.recordKind TaskFile.bodyLength TaskFile.step TaskFile.atEnd TaskFile.readRest TaskFile.readTask Bytes.word Bytes.wordAt Bytes.cleared Bytes.thenZeros Bytes.thenRest Certificate.entry Certificate.entries Certificate.keptRecord Certificate.keptPositions Certificate.lossRecord Certificate.wins Certificate.chosen Certificate.attackOf Certificate.attackLeads Certificate.lossStep Certificate.lossWith Certificate.lossOf Certificate.losses Certificate.certificateBy Compare.capacity Compare.decided Compare.refusedLate Compare.judge Compare.compareTask Compare.compareRead Compare.compare
+outcome c = Compare.compare (contestOf (c .game)) (c .file) (replicate (c .table) 170) (replicate (c .buffer) 85)
 
 unfoldable pub met : Case → Bool
 unfolding outcome sameValues sameBuffers

@@ -3,11 +3,12 @@
 use Prim.Native.Nat.{ℕ, zero, suc, _≤_, _<_}
 use mathlib.Core.Path.{_≡_, refl, sym, _∙_, ap, subst}
 use mathlib.Core.Logic.{_⊎_, inl, inr, ⊎-elim, _↔_, _≢_}
-use mathlib.Core.Bool.{true}
+use mathlib.Core.Bool.{true, cond}
 use mathlib.Core.List.{List}
 use mathlib.Core.Option.{none, some}
 use native.Mathlib.Omega.{arith}
 use lib.ListN.{length, take}
+use lib.Dec.{eqb}
 use Rattle.fra.specs.Lists.{_∈_}
 use Rattle.fra.specs.Game.{lostWithin, NeverLost, HasRank}
 use Rattle.fra.specs.Reach.{Reached, reached, rounds}
@@ -19,15 +20,15 @@ use Rattle.task.specs.Records.{TurnedBack}
 use Rattle.task.specs.declared.Answer.{Answer}
 use Rattle.task.specs.declared.Answer.the-variants.{Read, Refused as Unread}
 use Rattle.outcome.specs.Bytes.{Byte, values, cleared, thenZeros, thenRest}
-use Rattle.outcome.specs.Verdicts.{Contest, Values, equality, kindOf, widthOf, valuesOf, checkedValuesOf, numberAndZeros}
+use Rattle.outcome.specs.Verdicts.{Contest, Values, equality, oneWay, kindOf, valuesOf, checkedValuesOf, numberAndZeros}
 use Rattle.outcome.specs.Certificate.{entries, certificateBy}
 use Rattle.outcome.specs.Compare.{Outcome, compare}
-use Rattle.outcome.specs.Check.{checkTask, check, keptLength, lossLength}
+use Rattle.outcome.specs.Check.{checkTask, check}
 use Rattle.outcome.specs.Conditions.{Accepts, accepts-kept, accepts-lost}
 use Rattle.outcome.specs.Listed.{Counted, TableHolds, KeptWritten, LossesWritten}
 use Rattle.outcome.specs.Refusals.{ComparerRefuses, CheckerRefuses}
 use Rattle.outcome.specs.declared.Verdict.{Verdict}
-use Rattle.outcome.specs.declared.Verdict.the-variants.{Equal, Differ}
+use Rattle.outcome.specs.declared.Verdict.the-variants.{Equal, Differ, Follows, FallsShort}
 use Rattle.outcome.specs.declared.Comparison.{Comparison}
 use Rattle.outcome.specs.declared.Comparison.the-variants.{Decided, Refused}
 use Rattle.outcome.specs.declared.Check.{Check}
@@ -39,7 +40,7 @@ use Rattle.fra_laws.proofs.Reached.{reached-start, reached-legal, reached-exact
 use Rattle.fra_laws.proofs.Bisimulation.{keptMembers, never-lost-in-bisimulation, lost-in-no-bisimulation}
 use Rattle.task_laws.proofs.ReadValid.{read-valid}
 use Rattle.task_laws.proofs.ReadExactly.{read-exactly}
-use Rattle.task_laws.proofs.Judging.{number-bounds}
+use Rattle.task_laws.proofs.ReadAnswers.{turned-back-number, answer-read, read-answer}
 use Rattle.task_laws.proofs.FileRefusals.{refused-exactly as unread-exactly}
 use Rattle.outcome_laws.proofs.WrittenLists.{reached-closed, rounds-never, rounds-least}
 use Rattle.outcome_laws.proofs.Compare.{Says, refused-exactly, late-outcome}
@@ -59,52 +60,44 @@ use Rattle.exports.proofs.nuldopa_compare.Statement.{statement as compare-for-c
 use Rattle.exports.proofs.nuldopa_compare.Met.{met as compare-for-c-met}
 use Rattle.exports.proofs.nuldopa_check.Statement.{statement as check-for-c-statement}
 use Rattle.exports.proofs.nuldopa_check.Met.{met as check-for-c-met}
+use Rattle.exports.proofs.nuldopa_compare_one_way.Statement.{statement as compare-one-way-for-c-statement}
+use Rattle.exports.proofs.nuldopa_compare_one_way.Met.{met as compare-one-way-for-c-met}
+use Rattle.exports.proofs.nuldopa_check_one_way.Statement.{statement as check-one-way-for-c-statement}
+use Rattle.exports.proofs.nuldopa_check_one_way.Met.{met as check-one-way-for-c-met}
 use Rattle.promises.specs.Promises.{Promises, Demand1, Demand2, Demand3, returned, returnedByCheck, Gives}
 use Rattle.promises.proofs.Support.{compared-read, compared-unread, decided-read, written-part, checked-read, checked-unread, count-most, count-fits}
 
 -- ── The functions ──
 
--- The comparer: what it answers, and what it leaves in the table and in the certificate buffer, is `compare equality` of the bytes
--- that it was lent, whatever they are (crates/comparer/src/lib.rt). For callers in C: crates/exports/src/lib.rt. What the kit
--- states of a function includes that every call ends.
+-- The comparer: what it answers, and what it leaves in the table and in the certificate buffer, is `compare` of the bytes that it
+-- was lent, whatever they are, for the game that it is given (crates/comparer/src/lib.rt). For callers in C, a function for each
+-- game: crates/exports/src/lib.rt. What the kit states of a function includes that every call ends.
 pub comparer-returns-the-outcome : {M : Type 1} → compare-statement M
 comparer-returns-the-outcome = compare-met
 
 pub comparer-for-c-returns-the-outcome : {M : Type 1} → compare-for-c-statement M
 comparer-for-c-returns-the-outcome = compare-for-c-met
 
--- The checker answers `check equality` of the bytes that it was lent, and writes nothing (crates/checker/src/lib.rt).
+-- The checker answers `check` of the bytes that it was lent, for the game that it is given, and writes nothing
+-- (crates/checker/src/lib.rt).
 pub checker-returns-the-outcome : {M : Type 1} → check-statement M
 checker-returns-the-outcome = check-met
 
 pub checker-for-c-returns-the-outcome : {M : Type 1} → check-for-c-statement M
 checker-for-c-returns-the-outcome = check-for-c-met
 
+pub one-way-comparer-for-c-returns-the-outcome : {M : Type 1} → compare-one-way-for-c-statement M
+one-way-comparer-for-c-returns-the-outcome = compare-one-way-for-c-met
+
+pub one-way-checker-for-c-returns-the-outcome : {M : Type 1} → check-one-way-for-c-statement M
+one-way-checker-for-c-returns-the-outcome = check-one-way-for-c-met
+
 -- ── The reader ──
 
-turned-back-number : (n : ℕ) (file : List ℕ) → TurnedBack n file → 0 < n
-unfolding TurnedBack
-turned-back-number n file (inl (e, h)) = omega arith
-turned-back-number n file (inr (inl (e, h))) = omega arith
-turned-back-number n file (inr (inr (rule, e, h))) = let (least, most) = number-bounds rule in omega arith
-
 module _ (file : List ℕ) where
-  answer-read : readTask file .answer ≡ Read → IsRead file
-  answer-read e = ap refusalOf e
-
-  read-answer : IsRead file → readTask file .answer ≡ Read
-  read-answer h = by (readTask file .answer) refl
-    where
-      by : (a : Answer) → readTask file .answer ≡ a → readTask file .answer ≡ Read
-      by Read e = e
-      by (Unread m) e =
-          let least = turned-back-number m file (unread-exactly file m .0 e) in
-          let none-refused : m ≡ 0 = sym (ap refusalOf e) ∙ h in
-          absurd (omega arith)
-
   -- a file that is turned back is not read
   not-read : (n : ℕ) → TurnedBack n file → IsRead file → ⊥
-  not-read n back h = let d = unread-exactly file n .1 back in let e = read-answer h in clash (cc)
+  not-read n back h = let d = unread-exactly file n .1 back in let e = read-answer file h in clash (cc)
 
   reader-refuses : (n : ℕ) → 0 < n → (refusalOf (readTask file .answer) ≡ n) ↔ TurnedBack n file
   reader-refuses n least = by (readTask file .answer) refl
@@ -112,7 +105,7 @@ module _ (file : List ℕ) where
       by : (a : Answer) → readTask file .answer ≡ a → (refusalOf (readTask file .answer) ≡ n) ↔ TurnedBack n file
       by Read e = (
         λ h. let d : 0 ≡ n = sym (ap refusalOf e) ∙ h in absurd (omega arith),
-        λ back. absurd (not-read n back (answer-read e)),
+        λ back. absurd (not-read n back (answer-read file e)),
       )
       by (Unread m) e = (
         λ h. unread-exactly file n .0 (e ∙ ap (λ (k : ℕ). Unread k) (sym (ap refusalOf e) ∙ h)),
@@ -121,17 +114,24 @@ module _ (file : List ℕ) where
 
   reader-reads : (t : Task) → (IsRead file × (taskOf file ≡ t)) ↔ ((file ≡ encodeTask t) × Writable t)
   reader-reads t = (
-    λ (h, e). read-exactly file t .0 (read-answer h, e),
-    λ h. let (a, e) = read-exactly file t .1 h in (answer-read a, e),
+    λ (h, e). read-exactly file t .0 (read-answer file h, e),
+    λ h. let (a, e) = read-exactly file t .1 h in (answer-read file a, e),
   )
 
 -- ── Answers and their numbers ──
 
+-- the verdict with a kind
+abbrev withKind : ℕ → Verdict
+withKind k = cond (eqb k 16) Equal (cond (eqb k 17) Differ (cond (eqb k 18) Follows FallsShort))
+
 kind-fixes : (v w : Verdict) → kindOf v ≡ kindOf w → v ≡ w
-kind-fixes Equal Equal e = refl
-kind-fixes Equal Differ e = absurd (omega arith)
-kind-fixes Differ Equal e = absurd (omega arith)
-kind-fixes Differ Differ e = refl
+kind-fixes v w e = sym (back v) ∙ ap withKind e ∙ back w
+  where
+    back : (v : Verdict) → withKind (kindOf v) ≡ v
+    back Equal = refl
+    back Differ = refl
+    back Follows = refl
+    back FallsShort = refl
 
 refusal-number : (a : Comparison) (n : ℕ) → 0 < n → (valuesOf a .refusal ≡ n) ↔ (a ≡ Refused n)
 refusal-number (Decided v p k l) n least = (λ e. absurd (omega arith), λ e. clash (cc))
@@ -151,9 +151,7 @@ record Decision (c : Contest) (file table buffer : List ℕ) : Type 0 where
   pub read : readTask file .answer ≡ Read
   pub says : Says c (taskOf file) table buffer verdict positions rounds size
 
-module _ (c : Contest) (kinds-differ : kindOf (c .kept) ≢ kindOf (c .lost))
-    (kept-wide : widthOf (c .kept) ≡ suc (keptLength maxRegisters))
-    (lost-wide : widthOf (c .lost) ≡ suc (lossLength maxRegisters)) where
+module _ (c : Contest) (kinds-differ : kindOf (c .kept) ≢ kindOf (c .lost)) where
   -- ── A comparison ──
 
   module _ (file table buffer : List ℕ) where
@@ -170,7 +168,7 @@ module _ (c : Contest) (kinds-differ : kindOf (c .kept) ≢ kindOf (c .lost))
         by : (a : Answer) → readTask file .answer ≡ a → (outcome .answer ≡ Refused n) ↔ ComparerRefuses c file table buffer n
         by Read e =
             let same = ap (λ (o : Outcome). o .answer) (compared-read c file table buffer e) in
-            let late = refused-exactly c (taskOf file) table buffer (read-valid file e) kept-wide lost-wide n in (
+            let late = refused-exactly c (taskOf file) table buffer (read-valid file e) refl refl n in (
               λ h. inr (answer-read file e, late .0 (sym same ∙ h)),
               ⊎-elim (λ back. absurd (not-read file n back (answer-read file e))) (λ (f, h). same ∙ late .1 h),
             )
@@ -188,7 +186,7 @@ module _ (c : Contest) (kinds-differ : kindOf (c .kept) ≢ kindOf (c .lost))
     refuses-number n (inr (e, inl (d, h))) = omega arith
     refuses-number n (inr (e, inr (d, fits, long))) = omega arith
 
-    refuses-exactly : (n : ℕ) → 0 < n → (r .refusal ≡ n) ↔ ComparerRefuses c file table buffer n
+    pub refuses-exactly : (n : ℕ) → 0 < n → (r .refusal ≡ n) ↔ ComparerRefuses c file table buffer n
     refuses-exactly n least = (
       λ h. refuses n .0 (refusal-number (outcome .answer) n least .0 h),
       λ h. refusal-number (outcome .answer) n least .1 (refuses n .1 h),
@@ -231,7 +229,11 @@ module _ (c : Contest) (kinds-differ : kindOf (c .kept) ≢ kindOf (c .lost))
             let d : n ≡ 0 = sym (ap (λ (a : Comparison). valuesOf a .refusal) e) ∙ h in
             absurd (omega arith)
 
-    answers : Gives (c .kept) r ⊎ Gives (c .lost) r ⊎ (0 < r .refusal)
+    -- a verdict is given on a file that is read
+    pub verdict-read : r .refusal ≡ 0 → IsRead file
+    verdict-read h = answer-read file (decides h .read)
+
+    pub answers : Gives (c .kept) r ⊎ Gives (c .lost) r ⊎ (0 < r .refusal)
     answers = by (r .refusal) refl
       where
         by : (n : ℕ) → r .refusal ≡ n → Gives (c .kept) r ⊎ Gives (c .lost) r ⊎ (0 < r .refusal)
@@ -320,10 +322,10 @@ module _ (c : Contest) (kinds-differ : kindOf (c .kept) ≢ kindOf (c .lost))
 
       -- ── What it means ──
 
-      kept-never : r .verdict ≡ kindOf (c .kept) → NeverLost (c .rules) t (t .start)
+      pub kept-never : r .verdict ≡ kindOf (c .kept) → NeverLost (c .rules) t (t .start)
       kept-never e = rounds-never valid (c .rules) .0 (kept-start e .0)
 
-      lost-rank : r .verdict ≡ kindOf (c .lost) → HasRank (c .rules) t (t .start) (r .rounds)
+      pub lost-rank : r .verdict ≡ kindOf (c .lost) → HasRank (c .rules) t (t .start) (r .rounds)
       lost-rank e =
           rw (ap (λ (w : Values). w .rounds) (d .numbers)) (rounds-least valid (c .rules) (d .rounds) (lost-start e) .0)
 
@@ -587,11 +589,20 @@ module _ (c : Contest) (kinds-differ : kindOf (c .kept) ≢ kindOf (c .lost))
         accepted-shows-of-numbers = shows-of-numbers;
       }
 
--- What is promised of the comparison that the library makes.
-pub promises-kept : Promises equality
-promises-kept =
+-- both sides attack
+pub equality-kept : Promises equality
+equality-kept =
     record {
-      demand-1 = demand-1 equality (λ e. omega arith) refl refl;
-      demand-2 = demand-2 equality (λ e. omega arith) refl refl;
-      demand-3 = demand-3 equality (λ e. omega arith) refl refl;
+      demand-1 = demand-1 equality (λ e. omega arith);
+      demand-2 = demand-2 equality (λ e. omega arith);
+      demand-3 = demand-3 equality (λ e. omega arith);
+    }
+
+-- only the left side attacks
+pub one-way-kept : Promises oneWay
+one-way-kept =
+    record {
+      demand-1 = demand-1 oneWay (λ e. omega arith);
+      demand-2 = demand-2 oneWay (λ e. omega arith);
+      demand-3 = demand-3 oneWay (λ e. omega arith);
     }

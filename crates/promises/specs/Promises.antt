@@ -1,28 +1,32 @@
 -- What Nuldopa promises, in the order of the demands: each field below is a promise, with its sentence before it. They are
 -- stated for a game with its two verdicts (`Contest`), on what a call returns (its numbers) and on what
--- it leaves in the bytes that it was lent. proofs/Kept.antt shows that they hold of `equality`, the comparison that the library
--- makes, and that the functions which people call end on every input and return what is named here.
+-- it leaves in the bytes that it was lent. proofs/Kept.antt shows that they hold of `equality` (EQUAL and DIFFER) and of `oneWay`
+-- (FOLLOWS and FALLS SHORT), the comparisons that the library makes, and that the functions which people call end on every input
+-- and return what is named here. `BothComparisons` at the end says how the two go together.
 use Prim.Native.Nat.{ℕ, _≤_, _<_}
 use mathlib.Core.Path.{_≡_}
 use mathlib.Core.Logic.{_⊎_, _↔_}
 use mathlib.Core.Bool.{true}
-use mathlib.Core.List.{List}
+use mathlib.Core.List.{List, _∷_}
 use lib.ListN.{length, take}
 use Rattle.fra.specs.Game.{lostWithin, NeverLost, Bisimulation}
 use Rattle.fra.specs.Reach.{Reached}
+use Rattle.fra.specs.Exchange.{exchanged}
 use Rattle.fra.specs.declared.Position.{Position}
 use Rattle.fra.specs.declared.Task.{Task}
 use Rattle.task.specs.TaskFile.{readTask, taskOf, refusalOf, IsRead, maxRegisters}
 use Rattle.task.specs.TaskBytes.{encodeTask, Writable}
 use Rattle.task.specs.Records.{TurnedBack}
+use Rattle.task.specs.ExchangedFile.{exchangedFile}
 use Rattle.outcome.specs.Bytes.{Byte, values, cleared, thenZeros, thenRest}
-use Rattle.outcome.specs.Verdicts.{Contest, Values, kindOf, valuesOf, checkedValuesOf, numberAndZeros}
+use Rattle.outcome.specs.Verdicts.{Contest, equality, oneWay, Values, kindOf, valuesOf, checkedValuesOf, numberAndZeros}
 use Rattle.outcome.specs.Compare.{compare}
 use Rattle.outcome.specs.Check.{check}
 use Rattle.outcome.specs.Conditions.{Accepts}
 use Rattle.outcome.specs.Listed.{Counted, TableHolds, KeptWritten, LossesWritten}
 use Rattle.outcome.specs.Refusals.{ComparerRefuses, CheckerRefuses}
 use Rattle.outcome.specs.declared.Verdict.{Verdict}
+use Rattle.outcome.specs.declared.Verdict.the-variants.{Equal, Differ, Follows, FallsShort}
 use Rattle.numbers.specs.Numbers.{Setting, IsSetting, Opening, Choice, Reply, afterReply, Enough, LeastEnough}
 
 -- ── What is spoken of ──
@@ -103,7 +107,8 @@ pub record Demand1 (c : Contest) : Type 0 where
 
 -- ── Demand 2: "EQUAL means that a symbolic bisimulation of the two automata contains the start, and DIFFER means that there is
 -- none. The certificate checker accepts a proposed set or attack if it meets the published conditions, whoever wrote it, and only
--- then; the comparer's own certificates are accepted." ──
+-- then; the comparer's own certificates are accepted." By the rules of the one-way comparison, `Bisimulation` is a simulation: a
+-- set in which each attack of the left side has a reply leading into the set. ──
 
 pub record Demand2 (c : Contest) : Type 1 where
   -- The kept verdict is given where a symbolic bisimulation contains the start.
@@ -165,7 +170,38 @@ pub record Demand3 (c : Contest) : Type 0 where
       × (Gives (c .lost) (returnedByCheck c file (values certificate))
       → Enough (c .rules) (taskOf file) (returnedByCheck c file (values certificate) .rounds) s)
 
+-- ── All three, for a game ──
+
 pub record Promises (c : Contest) : Type 1 where
   pub demand-1 : Demand1 c
   pub demand-2 : Demand2 c
   pub demand-3 : Demand3 c
+
+-- ── Both comparisons of one task (02, ticket 1) ──
+
+pub record BothComparisons : Type 0 where
+  -- `exchangedFile` is the file "with the sides exchanged": where a file is read, it is read, as the task with both models
+  -- exchanged and the pairs turned round.
+  pub exchanged-file-is-read : (file : List ℕ) → IsRead file
+      → IsRead (exchangedFile file) × (taskOf (exchangedFile file) ≡ exchanged (taskOf file))
+  -- "EQUAL gives FOLLOWS whichever side attacks, where that one-way comparison is not refused": the left side,
+  pub equal-gives-follows : (file table buffer : List ℕ) → Gives Equal (returned equality file table buffer)
+      → (table′ buffer′ : List ℕ) → returned oneWay file table′ buffer′ .refusal ≡ 0
+      → Gives Follows (returned oneWay file table′ buffer′)
+  -- and the right side, which is the left one of the exchanged file. (A certificate of kind 18 can be longer than that of kind 16,
+  -- so that 12 may be met where EQUAL was given.)
+  pub equal-gives-follows-exchanged : (file table buffer : List ℕ) → Gives Equal (returned equality file table buffer)
+      → (table′ buffer′ : List ℕ) → returned oneWay (exchangedFile file) table′ buffer′ .refusal ≡ 0
+      → Gives Follows (returned oneWay (exchangedFile file) table′ buffer′)
+  -- Both reach the same positions, though in one of them only the left side attacks,
+  pub same-positions-reached : (file : List ℕ) → IsRead file → (p : Position)
+      → Reached (equality .rules) (taskOf file) p ↔ Reached (oneWay .rules) (taskOf file) p
+  -- and so a table is too small for both or for none.
+  pub table-too-small-alike : (file table buffer : List ℕ)
+      → (returned equality file table buffer .refusal ≡ 11) ↔ (returned oneWay file table buffer .refusal ≡ 11)
+  -- "each check turns the other's kinds back with 13"
+  pub other-kinds-turned-back : (file rest : List ℕ) → IsRead file
+      → (returnedByCheck equality file (kindOf Follows ∷ rest) .refusal ≡ 13)
+      × (returnedByCheck equality file (kindOf FallsShort ∷ rest) .refusal ≡ 13)
+      × (returnedByCheck oneWay file (kindOf Equal ∷ rest) .refusal ≡ 13)
+      × (returnedByCheck oneWay file (kindOf Differ ∷ rest) .refusal ≡ 13)

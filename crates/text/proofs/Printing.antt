@@ -9,6 +9,7 @@ use lib.ListN.{length, take, drop}
 use lib.Seq.{sets-eq, take-append-seam}
 use borrow.Author.Tests.{lt-ltb, le-ltb}
 use Rattle.fra.specs.Lists.{count}
+use Rattle.fra.specs.declared.Game.{Game}
 use Rattle.fra_laws.proofs.ByPlace.{elements}
 use Rattle.fra_laws.proofs.StringsInARow.{flatMap-map}
 use Rattle.outcome.specs.Bytes.{thenRest}
@@ -26,15 +27,16 @@ printed-line-by-line o =
     sym (flatMap-map (λ l. l) (lineAt (o .answer) (o .certificate)) (count 0 (length (lines o))))
     ∙ ap (flatMap (λ l. l)) (elements (length (lines o)) (lines o) [] refl)
 
--- what `compare` has to write of a task that is not too long: the lines of its comparison
-pub prints-line-by-line : (input : List ℕ) → length input ≤ longestTask → lineByLine (compared input) ≡ prints input
+-- what a program has to write of a task that is not too long: the lines of its comparison
+pub prints-line-by-line : (g : Game) (input : List ℕ) → length input ≤ longestTask
+    → lineByLine (compared g input) ≡ prints g input
 unfolding prints
-prints-line-by-line input h = rw (le-ltb longestTask (length input) h, prints) (printed-line-by-line (compared input))
+prints-line-by-line g input h = rw (le-ltb longestTask (length input) h, prints) (printed-line-by-line (compared g input))
 
 -- and of one that is
-pub prints-too-long : (input : List ℕ) → longestTask < length input → tooLong ≡ prints input
+pub prints-too-long : (g : Game) (input : List ℕ) → longestTask < length input → tooLong ≡ prints g input
 unfolding prints
-prints-too-long input h = rw (lt-ltb longestTask (length input) h, prints)
+prints-too-long g input h = rw (lt-ltb longestTask (length input) h, prints)
 
 -- ── A lent line ──
 

@@ -7,16 +7,17 @@ use native.Mathlib.Nat.{div-le-self, div-mul-le-self, mul-le-mul-right}
 use lib.ListN.{length, take, drop, length-take}
 use lib.Seq.{take-take}
 use Rattle.fra_laws.proofs.ByPlace.{places-length, places-at}
-use Rattle.outcome.specs.Verdicts.{widthOf}
+use Rattle.outcome.specs.Verdicts.{standingOf, widthOf}
 use Rattle.outcome.specs.declared.Verdict.{Verdict}
-use Rattle.outcome.specs.declared.Verdict.the-variants.{Equal, Differ}
+use Rattle.outcome.specs.declared.Standing.{Standing}
+use Rattle.outcome.specs.declared.Standing.the-variants.{Kept, Lost}
 use Rattle.outcome.specs.declared.Comparison.the-variants.{Decided}
 use Rattle.text.specs.Text.{bodyAt, recordLine, recordLines, linesOf, lineAt}
 
 -- no record is empty
-pub some-byte : (v : Verdict) → 1 ≤ widthOf v
-some-byte Equal = omega arith
-some-byte Differ = omega arith
+pub some-byte : (s : Standing) → 1 ≤ widthOf s
+some-byte Kept = omega arith
+some-byte Lost = omega arith
 
 -- a part that lies in the first n bytes
 part-of-front : (n at width : ℕ) (l : List ℕ) → at + width ≤ n → take width (drop at (take n l)) ≡ take width (drop at l)
@@ -29,25 +30,25 @@ module _ (v : Verdict) (size : ℕ) (l : List ℕ) where
   abbrev filled : List ℕ
   filled = take size l
 
-  pub records-few : length filled / widthOf v ≤ length l
-  records-few = omega (arith, div-le-self (length filled) (widthOf v), length-take size l)
+  pub records-few : length filled / widthOf (standingOf v) ≤ length l
+  records-few = omega (arith, div-le-self (length filled) (widthOf (standingOf v)), length-take size l)
 
   -- record j lies in the bytes that are filled
-  pub record-inside : (j : ℕ) → j < length filled / widthOf v → j * widthOf v + widthOf v ≤ length filled
+  pub record-inside : (j : ℕ) → j < length filled / widthOf (standingOf v) → j * widthOf (standingOf v) + widthOf (standingOf v) ≤ length filled
   record-inside j h =
-      omega (arith, mul-le-mul-right (widthOf v) h, div-mul-le-self (length filled) (widthOf v))
+      omega (arith, mul-le-mul-right (widthOf (standingOf v)) h, div-mul-le-self (length filled) (widthOf (standingOf v)))
 
   module _ (positions n : ℕ) where
-    pub lines-counted : length (linesOf (Decided v positions n size) l) ≡ 1 + length filled / widthOf v
+    pub lines-counted : length (linesOf (Decided v positions n size) l) ≡ 1 + length filled / widthOf (standingOf v)
     unfolding linesOf recordLines
     lines-counted =
-        omega (arith, places-length (λ i. recordLine v (bodyAt (widthOf v) (i * widthOf v) filled)) (length filled / widthOf v))
+        omega (arith, places-length (λ i. recordLine (standingOf v) (bodyAt (widthOf (standingOf v)) (i * widthOf (standingOf v)) filled)) (length filled / widthOf (standingOf v)))
 
     -- the line behind line j is that of record j
-    pub line-of-record : (j : ℕ) → j < length filled / widthOf v
-        → lineAt (Decided v positions n size) l (suc j) ≡ recordLine v (bodyAt (widthOf v) (j * widthOf v) l)
+    pub line-of-record : (j : ℕ) → j < length filled / widthOf (standingOf v)
+        → lineAt (Decided v positions n size) l (suc j) ≡ recordLine (standingOf v) (bodyAt (widthOf (standingOf v)) (j * widthOf (standingOf v)) l)
     unfolding linesOf recordLines
     line-of-record j h =
-        let inside : j * widthOf v + widthOf v ≤ size = omega (arith, record-inside j h, length-take size l) in
-        places-at (λ i. recordLine v (bodyAt (widthOf v) (i * widthOf v) filled)) (length filled / widthOf v) j [] h
-        ∙ ap (λ (m : List ℕ). recordLine v (drop 1 m)) (part-of-front size (j * widthOf v) (widthOf v) l inside)
+        let inside : j * widthOf (standingOf v) + widthOf (standingOf v) ≤ size = omega (arith, record-inside j h, length-take size l) in
+        places-at (λ i. recordLine (standingOf v) (bodyAt (widthOf (standingOf v)) (i * widthOf (standingOf v)) filled)) (length filled / widthOf (standingOf v)) j [] h
+        ∙ ap (λ (m : List ℕ). recordLine (standingOf v) (drop 1 m)) (part-of-front size (j * widthOf (standingOf v)) (widthOf (standingOf v)) l inside)

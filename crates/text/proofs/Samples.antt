@@ -3,25 +3,36 @@ use mathlib.Core.Path.{_≡_, refl}
 use mathlib.Core.List.{[], _++_}
 use lib.ListN.{replicate}
 use Rattle.outcome_marked.specs.MarkedCases.{P, G, end, outcome}
+use Rattle.fra.specs.declared.Game.the-variants.{BothAttack, LeftAttacks}
 use Rattle.text.specs.Text.{ascii, digitsWithin, decimal, prints}
 
 -- "On case 2 it prints"
-pub case-2-prints : prints (P ++ G ++ end) ≡ ascii "DIFFER 2 1\nLOST 0 0 0 0 0 0 0 0 1 0 7 1\n"
+pub case-2-prints : prints BothAttack (P ++ G ++ end) ≡ ascii "DIFFER 2 1\nLOST 0 0 0 0 0 0 0 0 1 0 7 1\n"
 unfolding prints outcome
 case-2-prints = refl
 
 -- case 1: "EQUAL lines are `KEPT` and eight numbers."
-pub case-1-prints : prints (P ++ P ++ end) ≡ ascii "EQUAL 2 0\nKEPT 0 0 0 0 0 0 0 0\nKEPT 1 1 1 0 0 0 0 0\n"
+pub case-1-prints : prints BothAttack (P ++ P ++ end) ≡ ascii "EQUAL 2 0\nKEPT 0 0 0 0 0 0 0 0\nKEPT 1 1 1 0 0 0 0 0\n"
 unfolding prints outcome
 case-1-prints = refl
 
+-- 02, ticket 1: case 2 one way, and with the sides exchanged
+pub case-2-one-way-prints : prints LeftAttacks (P ++ G ++ end) ≡ ascii "FALLS SHORT 2 1\nLOST 0 0 0 0 0 0 0 0 1 0 7 1\n"
+unfolding prints outcome
+case-2-one-way-prints = refl
+
+pub case-2-exchanged-prints : prints LeftAttacks (G ++ P ++ end)
+    ≡ ascii "FOLLOWS 2 0\nKEPT 0 0 0 0 0 0 0 0\nKEPT 1 1 1 0 0 0 0 0\n"
+unfolding prints outcome
+case-2-exchanged-prints = refl
+
 -- case 7: "a refusal `REFUSED` and its number"
-pub case-7-prints : prints [] ≡ ascii "REFUSED 2\n"
+pub case-7-prints : prints BothAttack [] ≡ ascii "REFUSED 2\n"
 unfolding prints outcome
 case-7-prints = refl
 
 -- "Longer input prints `TOO LONG`"
-pub longer-prints : prints (replicate 4097 0) ≡ ascii "TOO LONG\n"
+pub longer-prints : prints BothAttack (replicate 4097 0) ≡ ascii "TOO LONG\n"
 unfolding prints
 longer-prints = refl
 

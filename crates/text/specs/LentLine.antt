@@ -6,9 +6,9 @@ use lib.ListN.{length}
 use lib.Seq.{sets}
 use Rattle.listing.specs.Widths.{recordPosition, lostRounds}
 
--- the longest word: TOO LONG
+-- the longest word: FALLS SHORT
 abbrev pub longestWord : ℕ
-longestWord = 8
+longestWord = 11
 
 -- the longest number with the space in front of it: 4294967295
 abbrev pub longestNumber : ℕ

@@ -1,4 +1,4 @@
--- 01, "Sample pairs": what the program `compare` prints, as bytes. A line is a word, numbers and a line feed.
+-- 01, "Sample pairs": what the programs `compare` and `compare_one_way` print, as bytes. A line is a word, numbers and a line feed.
 use Prim.Native.Nat.{ℕ, zero, suc, _+_, _*_, _/_, _%_}
 use Prim.Native.Char.{code}
 use Prim.Native.String.{String, [] as nothing, _∷_ as _then_}
@@ -9,15 +9,18 @@ use lib.Dec.{ltb}
 use Rattle.fra.specs.Lists.{count}
 use Rattle.fra.specs.Position.{bytes}
 use Rattle.fra.specs.declared.Position.{Position}
+use Rattle.fra.specs.declared.Game.{Game}
 use Rattle.task.specs.TaskFile.{maxRegisters}
 use Rattle.outcome.specs.Bytes.{wordAt}
-use Rattle.outcome.specs.Verdicts.{equality, widthOf}
+use Rattle.outcome.specs.Verdicts.{contestOf, standingOf, widthOf}
 use Rattle.outcome.specs.Certificate.{Loss}
 use Rattle.outcome.specs.Compare.{Outcome, compare}
 use Rattle.outcome.specs.Check.{positionOf, lossFrom}
 use Rattle.listing.specs.Widths.{entryWidth}
+use Rattle.outcome.specs.declared.Standing.{Standing}
+use Rattle.outcome.specs.declared.Standing.the-variants.{Kept, Lost}
 use Rattle.outcome.specs.declared.Verdict.{Verdict}
-use Rattle.outcome.specs.declared.Verdict.the-variants.{Equal, Differ}
+use Rattle.outcome.specs.declared.Verdict.the-variants.{Equal, Differ, Follows, FallsShort}
 use Rattle.outcome.specs.declared.Comparison.{Comparison}
 use Rattle.outcome.specs.declared.Comparison.the-variants.{Decided, Refused}
 
@@ -53,6 +56,8 @@ lineOf word numbers = word ++ flatMap spaced numbers ++ ascii "\n"
 abbrev pub verdictWord : Verdict → List ℕ
 verdictWord Equal = ascii "EQUAL"
 verdictWord Differ = ascii "DIFFER"
+verdictWord Follows = ascii "FOLLOWS"
+verdictWord FallsShort = ascii "FALLS SHORT"
 
 -- "First line: verdict, positions, rounds."
 abbrev pub firstLine : Verdict → ℕ → ℕ → List ℕ
@@ -83,18 +88,18 @@ tooLong = lineOf (ascii "TOO LONG") []
 abbrev pub bodyAt : ℕ → ℕ → List ℕ → List ℕ
 bodyAt width at l = drop 1 (take width (drop at l))
 
-abbrev pub recordLine : Verdict → List ℕ → List ℕ
-recordLine Equal body = keptLine (positionOf maxRegisters body)
-recordLine Differ body = lostLine (lossFrom maxRegisters body)
+abbrev pub recordLine : Standing → List ℕ → List ℕ
+recordLine Kept body = keptLine (positionOf maxRegisters body)
+recordLine Lost body = lostLine (lossFrom maxRegisters body)
 
 -- a line for each whole record, one behind another
-unfoldable pub recordLines : Verdict → List ℕ → List (List ℕ)
-recordLines v l = map (λ i. recordLine v (bodyAt (widthOf v) (i * widthOf v) l)) (count 0 (length l / widthOf v))
+unfoldable pub recordLines : Standing → List ℕ → List (List ℕ)
+recordLines s l = map (λ i. recordLine s (bodyAt (widthOf s) (i * widthOf s) l)) (count 0 (length l / widthOf s))
 
 -- the lines of an answer, with the certificate buffer that it comes with
 unfoldable pub linesOf : Comparison → List ℕ → List (List ℕ)
 linesOf (Decided v positions rounds size) certificate =
-    firstLine v positions rounds ∷ recordLines v (take size certificate)
+    firstLine v positions rounds ∷ recordLines (standingOf v) (take size certificate)
 linesOf (Refused n) certificate = refusedLine n ∷ []
 
 abbrev pub lines : Outcome → List (List ℕ)
@@ -121,10 +126,10 @@ abbrev pub certificateBytes : ℕ
 certificateBytes = 64000
 
 -- the comparison of what the program reads
-abbrev pub compared : List ℕ → Outcome
-compared input = compare equality input (replicate tableBytes 0) (replicate certificateBytes 0)
+abbrev pub compared : Game → List ℕ → Outcome
+compared g input = compare (contestOf g) input (replicate tableBytes 0) (replicate certificateBytes 0)
 
--- what `compare` prints of it
-unfoldable pub prints : List ℕ → List ℕ
+-- what is printed of it, by `compare` for EQUAL and DIFFER and by `compare_one_way` for FOLLOWS and FALLS SHORT
+unfoldable pub prints : Game → List ℕ → List ℕ
 unfolding printed
-prints input = elim (ltb longestTask (length input)) [ true ↦ tooLong | false ↦ printed (compared input) ]
+prints g input = elim (ltb longestTask (length input)) [ true ↦ tooLong | false ↦ printed (compared g input) ]

@@ -1,7 +1,8 @@
-// What the program `compare` prints (01, "Sample pairs"), line by line in a lent buffer.
+// What the programs `compare` and `compare_one_way` print (01, "Sample pairs"), line by line in a lent buffer.
 use crate::numbers::put_number;
 use listing::words::word_at;
 use outcome::Comparison;
+use outcome::Standing;
 use outcome::Verdict;
 use outcome::layout::KEPT_WIDTH;
 use outcome::layout::POSITION;
@@ -11,7 +12,7 @@ ghost use mathlib.Core.Path.{_≡_};
 ghost use lib.ListN.{length, take};
 ghost use lib.Seq.{sets};
 ghost use Rattle.outcome.specs.Verdicts.{widthOf};
-ghost use Rattle.outcome.specs.declared.Verdict.the-variants.{Equal, Differ};
+ghost use Rattle.outcome.specs.declared.Standing.the-variants.{Kept, Lost};
 ghost use Rattle.text.specs.Text.{lineOf, firstLine, refusedLine, tooLong, bodyAt, recordLine, linesOf, lineAt};
 ghost use Rattle.text.specs.LentLine.{longestWord, mostNumbers, Puts};
 
@@ -23,8 +24,8 @@ const KEPT_NUMBERS: usize = KEPT_WIDTH - POSITION;
 // The numbers in the line of a lost position: the bytes before its rounds, and its rounds.
 const LOST_NUMBERS: usize = ROUNDS - POSITION + 1;
 
-// The longest word, TOO LONG, and the longest number with the space in front of it, 4294967295.
-const LONGEST_WORD: usize = 8;
+// The longest word, FALLS SHORT, and the longest number with the space in front of it, 4294967295.
+const LONGEST_WORD: usize = 11;
 
 const LONGEST_NUMBER: usize = 11;
 
@@ -67,6 +68,8 @@ fn put_first(verdict: Verdict, positions: u32, rounds: u32, line: &mut [u8; LINE
     match verdict {
         Verdict::Equal => put(b"EQUAL", &numbers, line),
         Verdict::Differ => put(b"DIFFER", &numbers, line),
+        Verdict::Follows => put(b"FOLLOWS", &numbers, line),
+        Verdict::FallsShort => put(b"FALLS SHORT", &numbers, line),
     }
 }
 
@@ -92,8 +95,8 @@ fn widen(bytes: &[u8], numbers: &mut [u32])
 
 // "EQUAL lines are `KEPT` and eight numbers."
 fn put_kept(certificate: &[u8], at: usize, line: &mut [u8; LINE]) -> usize
-    requires { ⌜ at + widthOf Equal ≤ length (now certificate) ⌝ }
-    ensures { λ r. ⌜ Puts (recordLine Equal (bodyAt (widthOf Equal) at (now (certificate .entry)))) (now (line .entry)) 0 (now (line .exit)) r ⌝ }
+    requires { ⌜ at + widthOf Kept ≤ length (now certificate) ⌝ }
+    ensures { λ r. ⌜ Puts (recordLine Kept (bodyAt (widthOf Kept) at (now (certificate .entry)))) (now (line .entry)) 0 (now (line .exit)) r ⌝ }
 {
     let mut numbers = [0u32; KEPT_NUMBERS];
     let from = at + POSITION;
@@ -104,8 +107,8 @@ fn put_kept(certificate: &[u8], at: usize, line: &mut [u8; LINE]) -> usize
 
 // "per record: two states, six partners, side, edge, case, rounds"
 fn put_lost(certificate: &[u8], at: usize, line: &mut [u8; LINE]) -> usize
-    requires { ⌜ at + widthOf Differ ≤ length (now certificate) ⌝ }
-    ensures { λ r. ⌜ Puts (recordLine Differ (bodyAt (widthOf Differ) at (now (certificate .entry)))) (now (line .entry)) 0 (now (line .exit)) r ⌝ }
+    requires { ⌜ at + widthOf Lost ≤ length (now certificate) ⌝ }
+    ensures { λ r. ⌜ Puts (recordLine Lost (bodyAt (widthOf Lost) at (now (certificate .entry)))) (now (line .entry)) 0 (now (line .exit)) r ⌝ }
 {
     let mut numbers = [0u32; LOST_NUMBERS];
     let from = at + POSITION;
@@ -116,23 +119,23 @@ fn put_lost(certificate: &[u8], at: usize, line: &mut [u8; LINE]) -> usize
 }
 
 // The line of the record that starts here.
-fn put_record(verdict: Verdict, certificate: &[u8], at: usize, line: &mut [u8; LINE]) -> usize
-    requires { ⌜ at + widthOf verdict ≤ length (now certificate) ⌝ }
-    ensures { λ r. ⌜ Puts (recordLine verdict (bodyAt (widthOf verdict) at (now (certificate .entry)))) (now (line .entry)) 0 (now (line .exit)) r ⌝ }
+fn put_record(standing: Standing, certificate: &[u8], at: usize, line: &mut [u8; LINE]) -> usize
+    requires { ⌜ at + widthOf standing ≤ length (now certificate) ⌝ }
+    ensures { λ r. ⌜ Puts (recordLine standing (bodyAt (widthOf standing) at (now (certificate .entry)))) (now (line .entry)) 0 (now (line .exit)) r ⌝ }
 {
-    match verdict {
-        Verdict::Equal => put_kept(certificate, at, line),
-        Verdict::Differ => put_lost(certificate, at, line),
+    match standing {
+        Standing::Kept => put_kept(certificate, at, line),
+        Standing::Lost => put_lost(certificate, at, line),
     }
 }
 
 // The whole records in the first bytes of a buffer, which may have fewer.
-fn record_count(verdict: Verdict, certificate: &[u8], size: usize) -> usize
-    ensures { λ r. ⌜ r ≡ length (take size (now (certificate .entry))) / widthOf verdict ⌝ }
+fn record_count(standing: Standing, certificate: &[u8], size: usize) -> usize
+    ensures { λ r. ⌜ r ≡ length (take size (now (certificate .entry))) / widthOf standing ⌝ }
 {
     let room = certificate.len();
     let filled = if room < size { room } else { size };
-    filled / verdict.width()
+    filled / standing.width()
 }
 
 // The lines of an answer, with the certificate buffer that it comes with.
@@ -145,7 +148,7 @@ pub fn line_count(answer: Comparison, certificate: &[u8]) -> usize
             positions: _,
             rounds: _,
             length,
-        } => 1 + record_count(verdict, certificate, length),
+        } => 1 + record_count(verdict.standing(), certificate, length),
         Comparison::Refused(_) => 1,
     }
 }
@@ -167,7 +170,8 @@ pub fn put_line(answer: Comparison, certificate: &[u8], i: usize, line: &mut [u8
             if i == 0 {
                 return put_first(verdict, positions, rounds, line);
             }
-            put_record(verdict, certificate, (i - 1) * verdict.width(), line)
+            let standing = verdict.standing();
+            put_record(standing, certificate, (i - 1) * standing.width(), line)
         }
         Comparison::Refused(n) => put_refusal(n, line),
     }

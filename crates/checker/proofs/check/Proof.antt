@@ -35,7 +35,7 @@ returns-2 c =
     let told = made .before in
     let indexed = index-of (made .of .ensures) in
     rw (← told .before .before .read-task .ensures, told .enum-told .given .1)
-    (rw (indexed .task, indexed .rules) at (c .check-indexed .ensures))
+    (rw (indexed .task, indexed .game) at (c .check-indexed .ensures))
 
 pub check-spec : {M : Type 1} → statement M
 check-spec =

@@ -18,18 +18,18 @@ use Rattle.checker_acceptance.proofs.accepted.Statement.{statement}
 use Rattle.checker_acceptance.proofs.accepted.Tie as tie
 
 abbrev Inv-loop : tie.InvT-loop
-Inv-loop index certificate verdict records pairs i₀ i =
-    acceptedBy (rulesIn index) (taskIn index) verdict certificate
-    ≡ all (recordHolds (rulesIn index) (taskIn index) verdict certificate) (count i (records .count - i))
+Inv-loop index certificate standing records pairs i₀ i =
+    acceptedBy (rulesIn index) (taskIn index) standing certificate
+    ≡ all (recordHolds (rulesIn index) (taskIn index) standing certificate) (count i (records .count - i))
 
 abbrev μ-loop : tie.MeasureT-loop
-μ-loop index certificate verdict records pairs i₀ i = records .count - i
+μ-loop index certificate standing records pairs i₀ i = records .count - i
 
 -- where the start is found
 place : (c : tie.After-find Inv-loop μ-loop)
     → let a = c .before .before .before .before .args in
     let l = a .certificate .now in
-    c .find .result ≡ placeOf (taskIn (a .index .now) .start) (positionsIn (recordsOf (a .verdict) (length l)) l)
+    c .find .result ≡ placeOf (taskIn (a .index .now) .start) (positionsIn (recordsOf (a .standing) (length l)) l)
 unfolding taskIn
 place c = rw (c .before .start .ensures, c .before .before .records-of .ensures) at (c .find .ensures)
 

@@ -1,5 +1,5 @@
 -- `checker_acceptance::claim_at` meets its contract, field by field. Assumes nothing.
-use Rattle.outcome.specs.declared.Verdict.the-variants.{Differ}
+use Rattle.outcome.specs.declared.Standing.the-variants.{Lost}
 use Rattle.checker_laws.specs.CertificateRecords.{lossAt}
 use Rattle.checker_laws.proofs.CertificateForm.{records-fit}
 use borrow.Author.Needs.{needs}
@@ -7,12 +7,12 @@ use Rattle.checker_acceptance.proofs.claim_at.Statement.{statement}
 use Rattle.checker_acceptance.proofs.claim_at.Tie as tie
 
 position-at-requires : tie.Need-position-at-requires
-position-at-requires c κs = rw (c .records-of .ensures) (records-fit Differ _, c .before .before .pre)
+position-at-requires c κs = rw (c .records-of .ensures) (records-fit Lost _, c .before .before .pre)
 
 rounds-at-requires : tie.Need-rounds-at-requires
 rounds-at-requires c κs =
     let listed = c .before .before .before .before in
-    rw (listed .records-of .ensures) (records-fit Differ _, listed .before .before .pre)
+    rw (listed .records-of .ensures) (records-fit Lost _, listed .before .before .pre)
 
 returns : tie.Need-returns
 unfolding lossAt

@@ -4,7 +4,7 @@ use mathlib.Core.Path.{_≡_, sym, _∙_}
 use mathlib.Core.Bool.{false}
 use Rattle.fra.specs.Game.{lostAtOnce}
 use Rattle.outcome.specs.Check.{holds}
-use Rattle.outcome.specs.declared.Verdict.the-variants.{Equal}
+use Rattle.outcome.specs.declared.Standing.the-variants.{Kept}
 use Rattle.game_index.specs.Reading.{taskIn, rulesIn}
 use Rattle.game_wins.specs.Wins.{firstWin}
 use Rattle.game_wins.specs.declared.Test.the-variants.{Unlisted}
@@ -24,7 +24,7 @@ kept-marks c =
 -- what the search for an attack says
 found : (c : tie.After-first-win)
     → let a = c .before .before .before .before .before .args in
-    firstWin (lostBy (a .pairs .now) Equal (a .certificate .now) Unlisted) (a .index .now) (a .p) ≡ c .first-win .result
+    firstWin (lostBy (a .pairs .now) Kept (a .certificate .now) Unlisted) (a .index .now) (a .p) ≡ c .first-win .result
 found c = sym (rw (c .before .records-of .ensures) at (c .first-win .ensures))
 
 returns : tie.Need-returns

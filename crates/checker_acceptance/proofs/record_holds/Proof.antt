@@ -1,4 +1,4 @@
--- `checker_acceptance::record_holds` meets its contract, verdict by verdict. Assumes nothing.
+-- `checker_acceptance::record_holds` meets its contract, standing by standing. Assumes nothing.
 use borrow.Author.Needs.{needs}
 use Rattle.checker_acceptance.proofs.record_holds.Statement.{statement}
 use Rattle.checker_acceptance.proofs.record_holds.Tie as tie

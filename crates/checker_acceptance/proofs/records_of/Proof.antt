@@ -1,4 +1,4 @@
--- `checker_acceptance::records_of` meets its contract, verdict by verdict. Assumes nothing.
+-- `checker_acceptance::records_of` meets its contract, standing by standing. Assumes nothing.
 use borrow.Author.Needs.{needs}
 use Rattle.checker_acceptance.proofs.records_of.Statement.{statement}
 use Rattle.checker_acceptance.proofs.records_of.Tie as tie

@@ -1,7 +1,7 @@
 -- `checker_acceptance::start_rounds` meets its contract: the record that is found decides. Assumes nothing.
 use mathlib.Core.Path.{_≡_, sym, _∙_}
 use lib.ListN.{length}
-use Rattle.outcome.specs.declared.Verdict.the-variants.{Differ}
+use Rattle.outcome.specs.declared.Standing.the-variants.{Lost}
 use Rattle.listing.specs.Listing.{Searchable}
 use Rattle.listing.specs.Lookup.{placeOf}
 use Rattle.listing.proofs.PositionNumbers.{positions-length}
@@ -14,13 +14,13 @@ use Rattle.checker_acceptance.proofs.start_rounds.Statement.{statement}
 use Rattle.checker_acceptance.proofs.start_rounds.Tie as tie
 
 -- the list is one of losses
-verdict : (c : tie.After-start) → c .before .before .before .before .before .args .verdict ≡ Differ
-verdict c = c .before .before .enum-told .given .1
+standing : (c : tie.After-start) → c .before .before .before .before .before .args .standing ≡ Lost
+standing c = c .before .before .enum-told .given .1
 
 listed : (c : tie.After-start)
     → let l = c .before .before .before .before .before .args .certificate .now in
-    Searchable (recordsOf Differ (length l)) l
-listed c = rw (verdict c) at (c .before .before .before .before .before .pre)
+    Searchable (recordsOf Lost (length l)) l
+listed c = rw (standing c) at (c .before .before .before .before .before .pre)
 
 -- where the start is found
 place : (c : tie.After-find)
@@ -36,7 +36,7 @@ find-requires c κs = rw (c .before .records-of .ensures) (listed c)
 returns-2 : tie.Need-returns-2
 returns-2 c =
     let found = c .before .before in
-    rw (verdict (found .before), start-rounds, ← place found, c .enum-told3 .given .1)
+    rw (standing (found .before), start-rounds, ← place found, c .enum-told3 .given .1)
 
 rounds-at-requires : tie.Need-rounds-at-requires
 rounds-at-requires c κs =
@@ -50,7 +50,7 @@ returns-3 : tie.Need-returns-3
 returns-3 c =
     let told = c .before in
     let found = told .before .before .before in
-    rw (verdict (found .before), start-rounds, ← place found, told .before .place .given .1)
+    rw (standing (found .before), start-rounds, ← place found, told .before .place .given .1)
     (rw (found .before .before .records-of .ensures) at (c .rounds-at .ensures))
 
 pub start-rounds-spec : {M : Type 1} → statement M

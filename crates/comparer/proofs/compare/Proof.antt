@@ -11,7 +11,7 @@ returns : tie.Need-returns
 returns c =
     let read = c .before .before .before in
     let a = read .before .before .before .before .args in
-    unread (now (a .file)) (now (a .table)) (now (a .certificate)) (rw (read .read-task .ensures) at (c .before .answer .given .1))
+    unread _ (now (a .file)) (now (a .table)) (now (a .certificate)) (rw (read .read-task .ensures) at (c .before .answer .given .1))
 
 of-requires : tie.Need-of-requires
 of-requires c κs =
@@ -30,8 +30,8 @@ returns-2 c =
     let read = made .before .before .before in
     let a = read .before .before .before .before .args in
     let h = index-of (made .of .ensures) in
-    read-compared (now (a .file)) (now (a .table)) (now (a .certificate)) (rw (read .read-task .ensures) at (made .before .enum-told .given .1))
-    (rw (h .task, h .rules, read .read-task .ensures) at (compared .compare-indexed .ensures))
+    read-compared _ (now (a .file)) (now (a .table)) (now (a .certificate)) (rw (read .read-task .ensures) at (made .before .enum-told .given .1))
+    (rw (h .task, h .game, read .read-task .ensures) at (compared .compare-indexed .ensures))
 
 pub compare-spec : {M : Type 1} → statement M
 compare-spec =

@@ -7,7 +7,7 @@ use denote.Ref.{now}
 use borrow.Author.Needs.{needs}
 use Rattle.listing.specs.Widths.{entryWidth}
 use Rattle.game_index.specs.Reading.{taskIn}
-use Rattle.comparer.proofs.Outcomes.{ranked-room, ranked-start, too-long, judged, same-decision}
+use Rattle.comparer.proofs.Outcomes.{ranked-room, ranked-start, too-long, judged}
 use Rattle.comparer.proofs.judge.Statement.{statement}
 use Rattle.comparer.proofs.judge.Tie as tie
 
@@ -50,7 +50,7 @@ clear-from-requires c κs =
 
 decided-requires : tie.Need-decided-requires
 decided-requires c κs =
-    let written = c .before .before .before .before .before in
+    let written = c .before .before .before .before .before .before in
     let answered = written .before .before .before in
     let (few, fits) = room (answered .before .before .before) in
     omega arith
@@ -58,14 +58,15 @@ decided-requires c κs =
 returns-2 : tie.Need-returns-2
 unfolding taskIn
 returns-2 c =
-    let cleared = c .before .before .before in
+    let played = c .before in
+    let cleared = played .before .before .before in
     let written = cleared .before .before .before in
     let answered = written .before .before .before in
     let certified = answered .before .before .before in
     let counted = certified .before .before .before in
     let start = counted .before .before .before .before .before in
     let index = start .pre .0 in
-    rw (c .decided .ensures, cleared .clear-from .ensures, same-decision (now (start .args .index)))
+    rw (c .decided .ensures, played .game .ensures, cleared .clear-from .ensures)
     (judged index (start .pre .1) (rw (counted .before .start .ensures) at (counted .rounds-of .ensures) ∙ ranked-start index (start .pre .1) .1)
     (rw (written .written .given .1) at (certified .certify .ensures)))
 
@@ -84,6 +85,7 @@ judge-spec =
     returns
     mul-clear-from
     clear-from-requires
+    (λ c κs. search needs)
     decided-requires
     (λ c. search needs)
     (λ c. search needs)

@@ -3,14 +3,14 @@
 use mathlib.Core.Path.{_≡_, _∙_}
 use denote.Ref.{now}
 use borrow.Author.Needs.{needs}
-use Rattle.outcome.specs.declared.Verdict.the-variants.{Differ}
+use Rattle.outcome.specs.declared.Standing.the-variants.{Lost}
 use Rattle.listing.specs.Listing.{ofTable, Searchable}
 use Rattle.game_index.specs.Reading.{taskIn}
 use Rattle.comparer_certify_laws.specs.Marking.{roundsFor}
 use Rattle.comparer_certify_laws.proofs.StillSearchable.{kept-prepared, searchable-kept}
 use Rattle.comparer_certify.specs.RecordFields.{recordsIn}
 use Rattle.comparer_certify.specs.CertifyAnswers.{certificateIn}
-use Rattle.comparer_certify.proofs.RankedCertificates.{searchable, never-lost, Lost, lost}
+use Rattle.comparer_certify.proofs.RankedCertificates.{searchable, never-lost, LostStart, lost}
 use Rattle.comparer_certify.proofs.certify.Statement.{statement}
 use Rattle.comparer_certify.proofs.certify.Tie as tie
 
@@ -44,7 +44,7 @@ returns c =
 -- what holds of a start that is lost
 facts : (c : tie.Else1) → let begun = c .before in
     let start = begun .before .before .before .before .before in
-    Lost (start .pre .0) (start .pre .1) (begun .rounds-of .result)
+    LostStart (start .pre .0) (start .pre .1) (begun .rounds-of .result)
 facts c =
     let begun = c .before in
     let start = begun .before .before .before .before .before in
@@ -86,7 +86,7 @@ returns-2 c =
     let attacked = prepared .before .before in
     let begun = attacked .before in
     let a = begun .before .before .before .before .before .args in
-    let whole : recordsIn (now (a .index)) Differ (a .n) (prepared .prepare .last .0) ≡ certificateIn (now (a .index)) =
+    let whole : recordsIn (now (a .index)) Lost (a .n) (prepared .prepare .last .0) ≡ certificateIn (now (a .index)) =
     rw (prepared .prepare .ensures) (facts attacked .certificate) in
     record {
       answers = rw (← whole) (done .write2 .ensures .answers);

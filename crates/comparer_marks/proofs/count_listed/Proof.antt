@@ -14,15 +14,15 @@ use Rattle.comparer_marks.proofs.count_listed.Statement.{statement}
 use Rattle.comparer_marks.proofs.count_listed.Tie as tie
 
 abbrev Inv-loop : tie.InvT-loop
-Inv-loop table n verdict entries found₀ i₀ found i = (i ≤ n) × (found ≡ length (listedPlaces verdict i table))
+Inv-loop table n standing entries found₀ i₀ found i = (i ≤ n) × (found ≡ length (listedPlaces standing i table))
 
 abbrev μ-loop : tie.MeasureT-loop
-μ-loop table n verdict entries found₀ i₀ found i = n - i
+μ-loop table n standing entries found₀ i₀ found i = n - i
 
 -- what the test says of the entry
 test : (c : tie.After-is-listed Inv-loop μ-loop) → let at-loop = c .before .before .before in
     let a = at-loop .before .before .before .args in
-    c .is-listed .result ≡ listedAt (a .verdict) (now (a .table)) (at-loop .loop .i)
+    c .is-listed .result ≡ listedAt (a .standing) (now (a .table)) (at-loop .loop .i)
 test c =
     let read = c .before in
     c .is-listed .ensures ∙ rw (read .rounds-at .ensures, read .before .before .before .of-table .ensures)
@@ -40,7 +40,7 @@ add-found : tie.Need-add-found Inv-loop μ-loop
 add-found c =
     let at-loop = c .before .before .before .before in
     let a = at-loop .before .before .before .args in
-    omega (arith, at-loop .loop .inv .1, listed-few (a .verdict) (now (a .table)) (at-loop .loop .i))
+    omega (arith, at-loop .loop .inv .1, listed-few (a .standing) (now (a .table)) (at-loop .loop .i))
 
 loop-again : tie.Need-loop-again Inv-loop μ-loop
 loop-again c =
@@ -52,9 +52,9 @@ loop-again c =
     ⊎-elim
     (λ w. (
       omega arith,
-      w .1 ∙ ap (λ (k : ℕ). k + 1) counted ∙ sym (listed-more (a .verdict) (now (a .table)) i (is ∙ w .0 .taken)),
+      w .1 ∙ ap (λ (k : ℕ). k + 1) counted ∙ sym (listed-more (a .standing) (now (a .table)) i (is ∙ w .0 .taken)),
     ))
-    (λ w. (omega arith, w .1 ∙ counted ∙ sym (listed-same (a .verdict) (now (a .table)) i (is ∙ w .0 .left))))
+    (λ w. (omega arith, w .1 ∙ counted ∙ sym (listed-same (a .standing) (now (a .table)) i (is ∙ w .0 .left))))
     (c .if1 .came)
 
 returns : tie.Need-returns Inv-loop μ-loop

@@ -1,4 +1,4 @@
--- `comparer_marks::is_listed` meets its contract, verdict by verdict. Assumes nothing.
+-- `comparer_marks::is_listed` meets its contract, standing by standing. Assumes nothing.
 use borrow.Author.Needs.{needs}
 use Rattle.comparer_marks.proofs.is_listed.Statement.{statement}
 use Rattle.comparer_marks.proofs.is_listed.Tie as tie

@@ -1,6 +1,6 @@
 -- `game_indexing::of` meets its contract: one side, the other, the start and the rules. Assumes nothing.
 use Prim.Native.Nat.{ℕ}
-use mathlib.Core.Path.{_≡_, _∙_}
+use mathlib.Core.Path.{_≡_}
 use native.Mathlib.Omega.{arith}
 use lib.ListN.{length, length-replicate, replicate}
 use borrow.Author.Needs.{needs}
@@ -26,7 +26,7 @@ six c = search needs
 
 returns : tie.Need-returns
 returns c =
-    let started = c .before .before in
+    let started = c .before in
     let right = started .before .before in
     let left = right .before .before in
     let start = left .before .before in
@@ -38,9 +38,8 @@ returns c =
       sized = sides;
       partners = six start;
       written =
-          c .put-rules .ensures
-          ∙ rw (started .put-start .ensures, right .put-side2 .ensures .written, left .put-side .ensures .written)
-          (of-written t sized (replicate size 0) (length-replicate {A = ℕ} size 0));
+          rw (c .number .ensures, started .put-start .ensures, right .put-side2 .ensures .written, left .put-side .ensures .written)
+          (of-written t _ sized (replicate size 0) (length-replicate {A = ℕ} size 0));
     }
   where
     both : (t : Task) → Sized (t .left) → Sized (t .right) → (s : Side) → Sized (modelOf t s)
@@ -50,4 +49,4 @@ returns c =
 pub of-spec : {M : Type 1} → statement M
 of-spec =
     tie.close
-    (tie.spec put-side-requires put-side-requires-2 (λ c κs. search needs) (λ c κs. search needs) returns)
+    (tie.spec put-side-requires put-side-requires-2 (λ c κs. search needs) (λ c κs. search needs) (λ c. search needs) returns)

@@ -6,7 +6,7 @@ use native.Mathlib.Omega.{arith}
 use lib.ListN.{length, take, length-take, List·getD-eq-default}
 use denote.Ref.{now}
 use borrow.Author.Needs.{needs}
-use Rattle.outcome.specs.Verdicts.{widthOf}
+use Rattle.outcome.specs.Verdicts.{standingOf, widthOf}
 use Rattle.outcome.specs.declared.Verdict.{Verdict}
 use Rattle.text.specs.Text.{linesOf}
 use Rattle.text.proofs.Lines.{puts-none}
@@ -35,7 +35,7 @@ number c = c .before .before .before .before .before .args .i - 1
 
 -- behind the first line, the record is there
 there : (c : tie.Else2) → let known = c .before .before in
-    number known < length (take (size known) (buffer known)) / widthOf (verdict known)
+    number known < length (take (size known) (buffer known)) / widthOf (standingOf (verdict known))
 there c =
     let known = c .before .before in
     let some = known .before .before in
@@ -44,12 +44,12 @@ there c =
     omega (arith, count, some .if1 .left, c .if2 .left)
 
 -- and lies in the buffer
-inside : (c : tie.After-width) → let known = c .before .before .before in
-    number known * c .width .result + widthOf (verdict known) ≤ length (buffer known)
+inside : (c : tie.After-width) → let known = c .before .before .before .before in
+    number known * c .width .result + widthOf (standingOf (verdict known)) ≤ length (buffer known)
 inside c =
-    let known = c .before .before .before in
-    let filled = record-inside (verdict known) (size known) (buffer known) (number known) (there (c .before)) in
-    rw (c .width .ensures) (omega (arith, length-take (size known) (buffer known)))
+    let known = c .before .before .before .before in
+    let filled = record-inside (verdict known) (size known) (buffer known) (number known) (there (c .before .before)) in
+    rw (c .width .ensures, c .before .standing .ensures) (omega (arith, length-take (size known) (buffer known)))
 
 returns : tie.Need-returns
 returns c =
@@ -67,7 +67,7 @@ returns-2 c =
 returns-3 : tie.Need-returns-3
 returns-3 c =
     let wide = c .before .before in
-    let later = wide .before in
+    let later = wide .before .before in
     let known = later .before .before in
     let next : known .before .before .before .before .before .args .i ≡ suc (number known) = omega (arith, later .if2 .left) in
     rw (
@@ -75,7 +75,7 @@ returns-3 c =
       next,
       line-of-record (verdict known) (size known) (buffer known) (positions known) (rounds known) (number known) (there later),
     )
-    (rw (wide .width .ensures) at (c .put-record .ensures))
+    (rw (wide .width .ensures, wide .before .standing .ensures) at (c .put-record .ensures))
 
 returns-4 : tie.Need-returns-4
 unfolding linesOf
@@ -96,10 +96,11 @@ put-line-spec =
     (λ c. search needs)
     (λ c κs. search needs)
     returns-2
+    (λ c κs. search needs)
     (λ c. search needs)
     (λ c κs. search needs)
     (λ c. omega (arith, inside c))
-    (λ c κs. inside (c .before))
+    (λ c κs. rw (c .before .before .standing .ensures) (inside (c .before)))
     (λ c. search needs)
     (λ c κs. search needs)
     returns-3

@@ -1,4 +1,4 @@
--- `text::put_record` meets its contract, verdict by verdict. Assumes nothing.
+-- `text::put_record` meets its contract, by how the position stands. Assumes nothing.
 use borrow.Author.Needs.{needs}
 use Rattle.text.proofs.put_record.Statement.{statement}
 use Rattle.text.proofs.put_record.Tie as tie

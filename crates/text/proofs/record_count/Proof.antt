@@ -15,7 +15,7 @@ use Rattle.text.proofs.record_count.Tie as tie
 div-result : tie.Need-div-result
 div-result c =
     let a = c .before .before .before .before .args in
-    omega (arith, c .before .width .ensures, some-byte (a .verdict))
+    omega (arith, c .before .width .ensures, some-byte (a .standing))
 
 returns : tie.Need-returns
 returns c =
@@ -24,7 +24,7 @@ returns c =
     let long = length-take (a .size) (now (a .certificate)) in
     let filled : joined .if1 .filled ≡ length (take (a .size) (now (a .certificate))) =
     ⊎-elim (λ w. omega arith) (λ w. omega arith) (joined .if1 .came) in
-    rw (c .before .width .ensures) (ap (λ k. k / widthOf (a .verdict)) filled)
+    rw (c .before .width .ensures) (ap (λ k. k / widthOf (a .standing)) filled)
 
 pub record-count-spec : {M : Type 1} → statement M
 record-count-spec = tie.close (tie.spec (λ c κs. search needs) div-result returns)

@@ -3,8 +3,6 @@
 use native.Mathlib.Omega.{arith}
 use denote.Ref.{now}
 use borrow.Author.Needs.{needs}
-use Rattle.outcome.specs.Verdicts.{kindOf}
-use Rattle.outcome.specs.declared.Verdict.the-variants.{Differ}
 use Rattle.listing.specs.Listing.{ofTable, positionAt}
 use Rattle.comparer_certify_laws.specs.EntryRecords.{recordAt}
 use Rattle.comparer_certify_laws.proofs.RecordFilling.{entry-six}
@@ -27,7 +25,7 @@ add-put-word : tie.Need-add-put-word
 add-put-word c =
     let attacked = c .before .before .before in
     let headed = attacked .before .before .before .before in
-    let entries = headed .before .before .before .before .before in
+    let entries = headed .before .before .before .before .before .before in
     omega (arith, entries .before .before .before)
 
 returns : tie.Need-returns
@@ -36,7 +34,8 @@ returns c =
     let rounded = c .before .before in
     let attacked = rounded .before .before .before .before in
     let headed = attacked .before .before .before .before in
-    let won = headed .before .before in
+    let named = headed .before in
+    let won = named .before .before in
     let read = won .before in
     let placed = read .before in
     let entries = placed .before in
@@ -46,12 +45,13 @@ returns c =
       rounded .put-word .ensures,
       attacked .put-attack .ensures,
       headed .put-head .ensures,
+      named .kind-of .ensures,
       won .attack-of .ensures,
       read .rounds-at .ensures,
       placed .position-at .ensures,
       entries .of-table .ensures,
     )
-    (loss-written (now (a .buffer)) (a .at) (kindOf Differ) _ (positionAt (ofTable (a .n)) (now (a .table)) (a .i)) _
+    (loss-written (now (a .buffer)) (a .at) _ _ (positionAt (ofTable (a .n)) (now (a .table)) (a .i)) _
     (entry-six (a .n) (now (a .table)) (start .pre .0 .fitting) (a .i) (start .pre .1 .1)))
 
 pub put-loss-spec : {M : Type 1} → statement M
@@ -61,6 +61,7 @@ put-loss-spec =
     (λ c κs. search needs)
     position-at-requires
     rounds-at-requires
+    (λ c κs. search needs)
     (λ c κs. search needs)
     (λ c κs. search needs)
     (λ c. search needs)

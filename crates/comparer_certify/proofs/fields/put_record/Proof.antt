@@ -1,4 +1,4 @@
--- `comparer_certify::fields::put_record` meets its contract, verdict by verdict. Assumes nothing.
+-- `comparer_certify::fields::put_record` meets its contract, standing by standing. Assumes nothing.
 use borrow.Author.Needs.{needs}
 use Rattle.comparer_certify_laws.specs.EntryRecords.{recordAt}
 use Rattle.comparer_certify.proofs.fields.put_record.Statement.{statement}
@@ -12,7 +12,7 @@ position-at-requires c κs =
 
 put-head-requires : tie.Need-put-head-requires
 put-head-requires c κs =
-    let told = c .before .before .before in
+    let told = c .before .before .before .before in
     let start = told .before .before .before .before in
     rw (told .enum-told .given .1) at (start .pre .1 .2)
 
@@ -26,10 +26,11 @@ returns : tie.Need-returns
 unfolding recordAt
 returns c =
     let done = c .before .before in
-    let placed = done .before .before in
+    let named = done .before in
+    let placed = named .before .before in
     let entries = placed .before in
     rw (entries .before .enum-told .given .1)
-    (rw (placed .position-at .ensures, entries .of-table .ensures) at (done .put-head .ensures))
+    (rw (named .kind-of .ensures, placed .position-at .ensures, entries .of-table .ensures) at (done .put-head .ensures))
 
 returns-2 : tie.Need-returns-2
 returns-2 c =
@@ -43,6 +44,7 @@ put-record-spec =
     (λ c. search needs)
     (λ c κs. search needs)
     position-at-requires
+    (λ c κs. search needs)
     put-head-requires
     (λ c. search needs)
     put-loss-requires

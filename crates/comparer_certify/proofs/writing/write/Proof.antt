@@ -14,14 +14,14 @@ use Rattle.comparer_certify.proofs.writing.write.Tie as tie
 
 -- what is computed is the length of the records
 computed : (c : tie.After-width) → let a = c .before .before .before .before .args in
-    c .before .count-listed .result * c .width .result ≡ length (recordsIn (now (a .index)) (a .verdict) (a .n) (now (a .table)))
+    c .before .count-listed .result * c .width .result ≡ length (recordsIn (now (a .index)) (a .standing) (a .n) (now (a .table)))
 computed c =
     let counted = c .before in
     let start = counted .before .before .before in
     let a = start .args in
     let b = now (a .index) in
     rw (counted .count-listed .ensures, c .width .ensures)
-    (sym (records-width (a .n) (now (a .table)) (start .pre .0 .fitting) (rulesIn b) (taskIn b) (a .verdict)))
+    (sym (records-width (a .n) (now (a .table)) (start .pre .0 .fitting) (rulesIn b) (taskIn b) _ (a .standing)))
 
 -- an entry is not much shorter than a record
 mul-size : tie.Need-mul-size
@@ -30,7 +30,7 @@ mul-size c =
     let start = counted .before .before .before in
     let a = start .args in
     rw (counted .count-listed .ensures, c .width .ensures)
-    (omega (arith, bytes-few (a .verdict) (now (a .table)) (a .n), start .pre .0 .fitting .room, start .good))
+    (omega (arith, bytes-few (a .standing) (now (a .table)) (a .n), start .pre .0 .fitting .room, start .good))
 
 returns : tie.Need-returns
 returns c =

@@ -1,11 +1,11 @@
--- `compare::print` is safe: the bytes that are written lie in the line. Assumes nothing.
+-- `comparing::print` is safe: the bytes that are written lie in the line. Assumes nothing.
 use Prim.Native.Nat.{_≤_}
 use mathlib.Core.Path.{sym}
 use lib.ListN.{length}
 use lib.Seq.{length-take-le}
 use borrow.Author.Needs.{needs}
-use Rattle.compare.proofs.print.Statement.{statement}
-use Rattle.compare.proofs.print.Tie as tie
+use Rattle.comparing.proofs.print.Statement.{statement}
+use Rattle.comparing.proofs.print.Tie as tie
 
 slice-aggregate-write-all : tie.Need-slice-aggregate-write-all
 slice-aggregate-write-all c =

@@ -1,8 +1,8 @@
--- `compare::print_lines` is safe and ends: what is left of the lines falls. Assumes nothing.
+-- `comparing::print_lines` is safe and ends: what is left of the lines falls. Assumes nothing.
 use Prim.Native.Nat.{_≤_, _-_}
 use borrow.Author.Needs.{needs}
-use Rattle.compare.proofs.print_lines.Statement.{statement}
-use Rattle.compare.proofs.print_lines.Tie as tie
+use Rattle.comparing.proofs.print_lines.Statement.{statement}
+use Rattle.comparing.proofs.print_lines.Tie as tie
 
 abbrev Inv-loop : tie.InvT-loop
 Inv-loop answer certificate count i₀ i = i ≤ count

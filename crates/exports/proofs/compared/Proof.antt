@@ -1,9 +1,9 @@
--- `exports::nuldopa_compare` meets its contract. Assumes nothing.
+-- `exports::compared` meets its contract. Assumes nothing.
 use mathlib.Core.Path.{_∙_, ap}
 use borrow.Author.Needs.{needs}
 use Rattle.outcome.specs.Verdicts.{valuesOf}
-use Rattle.exports.proofs.nuldopa_compare.Statement.{statement}
-use Rattle.exports.proofs.nuldopa_compare.Tie as tie
+use Rattle.exports.proofs.compared.Statement.{statement}
+use Rattle.exports.proofs.compared.Tie as tie
 
 returns : tie.Need-returns
 returns c =
@@ -14,7 +14,7 @@ returns c =
       certificates = given .certificates;
     }
 
-pub nuldopa-compare-spec : {M : Type 1} → statement M
-nuldopa-compare-spec =
+pub compared-spec : {M : Type 1} → statement M
+compared-spec =
     tie.close
     (tie.spec (λ c κs. search needs) (λ c κs. search needs) (λ c. search needs) (λ c. search needs) returns)

@@ -1,2 +1,0 @@
--- The verdicts that a game decides between.
-pub mod Contests

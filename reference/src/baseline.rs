@@ -8,7 +8,8 @@
 //!   in the order of the position bytes, so packed order is byte order.
 //! - The round "left attacks with e, right replies with f" and the round
 //!   "right attacks with f, left replies with e" lead to the same position.
-//!   So positions are made once for every such couple of edges.
+//!   So positions are made once for every such couple of edges, and which
+//!   sides attack makes no difference to the positions that are reached.
 //! - For a locally fresh edge, case 7 has the same replies as case 8 or
 //!   fewer. So case 8 adds positions, but never rounds.
 //! - A position that has an attack without reply is lost in 1 round (or 0);
@@ -17,6 +18,7 @@
 use crate::compare::{Solution, NEVER_LOST};
 use crate::game::Position;
 use crate::model::*;
+use crate::rules::Rules;
 use std::collections::HashMap;
 use std::hash::{BuildHasherDefault, Hasher};
 
@@ -117,17 +119,17 @@ fn bundle(model: &Model, state: u8, tag: u8) -> Bundle {
 #[derive(Clone, Default)]
 struct Encounter {
     tags: Vec<(Bundle, Bundle)>,
-    marks_differ: bool,
+    lost_at_once: bool,
     left_set: u8,
     right_set: u8,
 }
 
-fn encounter(task: &Task, left: u8, right: u8) -> Encounter {
+fn encounter(rules: Rules, task: &Task, left: u8, right: u8) -> Encounter {
     let couples =
         (0..=MAX_TAG).map(|t| (bundle(&task.left, left, t), bundle(&task.right, right, t)));
     Encounter {
         tags: couples.filter(|(l, r)| !l.is_empty() || !r.is_empty()).collect(),
-        marks_differ: task.left.end_mark(left) != task.right.end_mark(right),
+        lost_at_once: rules.loses_at_once(task, left, right),
         left_set: task.left.set(left).0,
         right_set: task.right.set(right).0,
     }
@@ -203,17 +205,23 @@ impl Matching {
 
 /// The attacks of one position that have replies, each as the dense numbers
 /// of the positions that its replies lead to.
-#[derive(Default)]
 struct Attacks {
+    /// Whether the left and the right side attack.
+    by_side: [bool; 2],
     targets: Vec<u32>,
     /// Where each attack's targets end.
     ends: Vec<u32>,
-    /// The position's rounds are known: its end marks differ, or some attack
+    /// The position's rounds are known: it is lost at once, or some attack
     /// has no reply at all.
     decided: bool,
 }
 
 impl Attacks {
+    fn none(rules: Rules) -> Attacks {
+        let by_side = Side::BOTH.map(|side| rules.attacks(side));
+        Attacks { by_side, targets: Vec::new(), ends: Vec::new(), decided: false }
+    }
+
     fn clear(&mut self) {
         self.targets.clear();
         self.ends.clear();
@@ -221,9 +229,9 @@ impl Attacks {
     }
 
     /// An attack that a reply can bring back to where it was decides
-    /// nothing, so it is left out.
-    fn add(&mut self, own: u32, targets: impl Iterator<Item = u32>) {
-        if self.decided {
+    /// nothing, so it is left out; so is one of a side that does not attack.
+    fn add(&mut self, own: u32, side: Side, targets: impl Iterator<Item = u32>) {
+        if self.decided || !self.by_side[side as usize] {
             return;
         }
         let begin = self.targets.len();
@@ -303,23 +311,26 @@ impl Explorer<'_> {
         let matching = Matching::of(packed);
         let left_lone = here.left_set & !matching.left_matched;
         let right_lone = here.right_set & !matching.right_matched;
+        let [left_attacks, right_attacks] = self.attacks.by_side;
         let unheard = |(left, right): &(Bundle, Bundle)| {
-            right.local_count > 0 && left_lone & !left.known_set != 0
-                || left.local_count > 0 && right_lone & !right.known_set != 0
+            right_attacks && right.local_count > 0 && left_lone & !left.known_set != 0
+                || left_attacks && left.local_count > 0 && right_lone & !right.known_set != 0
         };
         self.attacks.clear();
-        self.attacks.decided = here.marks_differ || here.tags.iter().any(unheard);
+        self.attacks.decided = here.lost_at_once || here.tags.iter().any(unheard);
         for (left, right) in &here.tags {
             self.fresh_meets_fresh(own, &matching, left, right);
             self.known_meets_known(own, &matching, left, right);
-            self.known_meets_local(own, left_lone, left, right, |l, r| {
+            let holder = Holder { side: Side::Left, bundle: left, lone: left_lone };
+            self.known_meets_local(own, holder, right, |l, r| {
                 matching.after(l, r, matching.without_right(matching.packed, r.register))
             });
-            self.known_meets_local(own, right_lone, right, left, |r, l| {
+            let holder = Holder { side: Side::Right, bundle: right, lone: right_lone };
+            self.known_meets_local(own, holder, left, |r, l| {
                 matching.after(l, r, matching.without_left(matching.packed, l.register))
             });
         }
-        let rounds = match (here.marks_differ, self.attacks.decided) {
+        let rounds = match (here.lost_at_once, self.attacks.decided) {
             (true, _) => 0,
             (false, true) => 1,
             (false, false) => NEVER_LOST,
@@ -362,13 +373,13 @@ impl Explorer<'_> {
             let cells = &self.grid[row * width..(row + 1) * width];
             let replies = cells.iter().zip(&right.fresh);
             let fitting = replies.filter(|(_, r)| l.is_global || !r.is_global);
-            self.attacks.add(own, fitting.map(|(&target, _)| target));
+            self.attacks.add(own, Side::Left, fitting.map(|(&target, _)| target));
         }
         for (column, r) in right.fresh.iter().enumerate() {
             let cells = self.grid.iter().skip(column).step_by(width);
             let replies = cells.zip(&left.fresh);
             let fitting = replies.filter(|(_, l)| r.is_global || !l.is_global);
-            self.attacks.add(own, fitting.map(|(&target, _)| target));
+            self.attacks.add(own, Side::Right, fitting.map(|(&target, _)| target));
         }
     }
 
@@ -387,57 +398,72 @@ impl Explorer<'_> {
                     self.couples.push((column, target));
                 }
             }
-            self.attacks.add(own, self.couples[begin..].iter().map(|couple| couple.1));
+            let found = &self.couples[begin..];
+            self.attacks.add(own, Side::Left, found.iter().map(|couple| couple.1));
         }
         for (column, r) in right.known.iter().enumerate() {
             if m.of_right[r.register as usize] != 0 {
                 let fitting = self.couples.iter().filter(|couple| couple.0 == column);
-                self.attacks.add(own, fitting.map(|couple| couple.1));
+                self.attacks.add(own, Side::Right, fitting.map(|couple| couple.1));
             }
         }
     }
 
-    /// A number that only one reader holds, in one of the `unmatched`
-    /// registers: this reader attacks with a known edge, or the other one with
-    /// a locally fresh edge. `after` has where two such edges lead.
+    /// A number that only one reader holds: this reader attacks with a known
+    /// edge, or the other one with a locally fresh edge. `after` has where
+    /// two such edges lead.
     fn known_meets_local(
         &mut self,
         own: u32,
-        unmatched: u8,
-        holder: &Bundle,
+        holder: Holder,
         other: &Bundle,
         after: impl Fn(&Step, &Step) -> u32,
     ) {
-        if unmatched & holder.known_set == 0 {
+        if holder.lone & holder.bundle.known_set == 0 {
             return;
         }
         self.grid.clear();
-        for known in holder.known.iter().filter(|step| holds(unmatched, step.register)) {
+        for known in holder.lone_known() {
             let local = other.fresh.iter().filter(|step| !step.is_global);
             self.grid.extend(local.map(|local| after(known, local)));
         }
         self.number_grid();
-        self.attack_lone_known(own, &holder.known, unmatched, other.local_count);
+        self.attack_lone_known(own, holder, other.local_count);
     }
 
-    /// The grid has a row for each known edge of an unmatched register and a
-    /// column for each locally fresh edge of the other side. A known edge is
-    /// replied to by its whole row; a locally fresh edge that takes the
-    /// number of a register, by the rows of this register.
-    fn attack_lone_known(&mut self, own: u32, known: &[Step], unmatched: u8, width: usize) {
-        let rows = || known.iter().filter(|step| holds(unmatched, step.register)).enumerate();
-        for (row, _) in rows() {
+    /// The grid has a row for each known edge of a lone register and a column
+    /// for each locally fresh edge of the other side. A known edge is replied
+    /// to by its whole row; a locally fresh edge that takes the number of a
+    /// register, by the rows of this register.
+    fn attack_lone_known(&mut self, own: u32, holder: Holder, width: usize) {
+        for (row, _) in holder.lone_known().enumerate() {
             let cells = &self.grid[row * width..(row + 1) * width];
-            self.attacks.add(own, cells.iter().copied());
+            self.attacks.add(own, holder.side, cells.iter().copied());
         }
-        let with_edges = known.iter().fold(0, |set, step| set | 1 << (step.register - 1));
-        for held in registers_of(unmatched & with_edges) {
+        let grid = &self.grid;
+        for held in registers_of(holder.lone & holder.bundle.known_set) {
             for column in 0..width {
-                let fitting = rows().filter(|(_, step)| step.register == held);
-                let grid = &self.grid;
-                self.attacks.add(own, fitting.map(|(row, _)| grid[row * width + column]));
+                let rows = holder.lone_known().enumerate();
+                let fitting = rows.filter(|(_, step)| step.register == held);
+                let targets = fitting.map(|(row, _)| grid[row * width + column]);
+                self.attacks.add(own, holder.side.other(), targets);
             }
         }
+    }
+}
+
+/// One reader, and the registers whose numbers it alone holds.
+#[derive(Clone, Copy)]
+struct Holder<'a> {
+    side: Side,
+    bundle: &'a Bundle,
+    lone: u8,
+}
+
+impl<'a> Holder<'a> {
+    /// The known edges of these registers.
+    fn lone_known(self) -> impl Iterator<Item = &'a Step> {
+        self.bundle.known.iter().filter(move |step| holds(self.lone, step.register))
     }
 }
 
@@ -524,11 +550,12 @@ fn settle(rounds: &mut [u32], graph: &AttackGraph) {
 }
 
 /// Packed positions reached, with rounds, rising.
-pub fn settled_positions(task: &Task) -> Vec<(u32, u32)> {
+pub fn settled_positions(rules: Rules, task: &Task) -> Vec<(u32, u32)> {
     let mut encounters = vec![Encounter::default(); 256];
     for left in 0..task.left.states.len() as u8 {
         for right in 0..task.right.states.len() as u8 {
-            encounters[(left as usize) << 4 | right as usize] = encounter(task, left, right);
+            let met = encounter(rules, task, left, right);
+            encounters[(left as usize) << 4 | right as usize] = met;
         }
     }
     let mut explorer = Explorer {
@@ -536,7 +563,7 @@ pub fn settled_positions(task: &Task) -> Vec<(u32, u32)> {
         reached: Reached { packed: Vec::new(), numbers: Numbers::default() },
         rounds: Vec::new(),
         graph: AttackGraph::default(),
-        attacks: Attacks::default(),
+        attacks: Attacks::none(rules),
         grid: Vec::new(),
         couples: Vec::new(),
     };
@@ -550,8 +577,8 @@ pub fn settled_positions(task: &Task) -> Vec<(u32, u32)> {
     entries
 }
 
-pub fn solve(task: &Task) -> Solution {
-    let packed = settled_positions(task);
+pub fn solve(rules: Rules, task: &Task) -> Solution {
+    let packed = settled_positions(rules, task);
     let entries = packed.into_iter().map(|(p, rounds)| (unpack(p), rounds)).collect();
-    Solution::new(task, entries)
+    Solution::new(rules, task, entries)
 }

@@ -1,28 +1,41 @@
 //! The certificates that the comparer writes.
 
 use crate::game::{attacks, replies, Attack, Position};
-use crate::model::Task;
+use crate::model::{Task, Verdict};
+use crate::rules::Rules;
 use std::collections::BTreeMap;
 
-pub const KEPT: u8 = 16;
-pub const LOST: u8 = 17;
 pub const KEPT_LENGTH: usize = 9;
 pub const LOST_LENGTH: usize = 16;
 
-fn put_kept(bytes: &mut Vec<u8>, position: &Position) {
-    bytes.push(KEPT);
+/// The length of a record in a certificate for this verdict.
+pub fn record_length(verdict: Verdict) -> usize {
+    if verdict.is_kept() {
+        KEPT_LENGTH
+    } else {
+        LOST_LENGTH
+    }
+}
+
+fn put_kept(bytes: &mut Vec<u8>, rules: Rules, position: &Position) {
+    bytes.push(rules.kept.kind());
     bytes.extend_from_slice(&position.bytes());
 }
 
-pub fn kept_record(position: &Position) -> Vec<u8> {
+pub fn kept_record(rules: Rules, position: &Position) -> Vec<u8> {
     let mut bytes = Vec::new();
-    put_kept(&mut bytes, position);
+    put_kept(&mut bytes, rules, position);
     bytes
 }
 
 /// Side, edge and case are zero where there is no attack.
-pub fn lost_record(position: &Position, attack: Option<Attack>, rounds: u32) -> Vec<u8> {
-    let mut bytes = vec![LOST];
+pub fn lost_record(
+    rules: Rules,
+    position: &Position,
+    attack: Option<Attack>,
+    rounds: u32,
+) -> Vec<u8> {
+    let mut bytes = vec![rules.lost.kind()];
     bytes.extend_from_slice(&position.bytes());
     match attack {
         Some(a) => bytes.extend_from_slice(&[a.side.number(), a.edge, a.case]),
@@ -33,17 +46,21 @@ pub fn lost_record(position: &Position, attack: Option<Attack>, rounds: u32) -> 
 }
 
 /// `positions` rise and are never lost.
-pub fn equal_certificate(positions: impl Iterator<Item = Position>) -> Vec<u8> {
+pub fn kept_certificate(rules: Rules, positions: impl Iterator<Item = Position>) -> Vec<u8> {
     let mut bytes = Vec::new();
     for position in positions {
-        put_kept(&mut bytes, &position);
+        put_kept(&mut bytes, rules, &position);
     }
     bytes
 }
 
 /// The start and all positions its attacks lead to. `rounds_of` gives the
 /// rounds of a reached position, None where it is never lost.
-pub fn differ_certificate(task: &Task, rounds_of: impl Fn(&Position) -> Option<u32>) -> Vec<u8> {
+pub fn lost_certificate(
+    rules: Rules,
+    task: &Task,
+    rounds_of: impl Fn(&Position) -> Option<u32>,
+) -> Vec<u8> {
     let mut records = BTreeMap::new();
     let mut open = vec![Position::start(task)];
     while let Some(position) = open.pop() {
@@ -51,8 +68,8 @@ pub fn differ_certificate(task: &Task, rounds_of: impl Fn(&Position) -> Option<u
             continue;
         }
         let rounds = rounds_of(&position).expect("only lost positions are listed");
-        let attack = first_winning_attack(task, &position, rounds, &rounds_of);
-        records.insert(position, lost_record(&position, attack, rounds));
+        let attack = first_winning_attack(rules, task, &position, &rounds_of);
+        records.insert(position, lost_record(rules, &position, attack, rounds));
         if let Some(attack) = attack {
             open.extend(replies(task, &position, attack).iter().map(|r| r.leads_to));
         }
@@ -62,16 +79,14 @@ pub fn differ_certificate(task: &Task, rounds_of: impl Fn(&Position) -> Option<u
 
 /// None exactly for rounds 0.
 fn first_winning_attack(
+    rules: Rules,
     task: &Task,
     position: &Position,
-    rounds: u32,
     rounds_of: &impl Fn(&Position) -> Option<u32>,
 ) -> Option<Attack> {
-    if rounds == 0 {
-        return None;
-    }
+    let rounds = rounds_of(position).filter(|&n| n != 0)?;
     let is_sooner = |p: &Position| rounds_of(p).is_some_and(|n| n < rounds);
     let wins = |a: &Attack| replies(task, position, *a).iter().all(|r| is_sooner(&r.leads_to));
-    let found = attacks(task, position).into_iter().find(wins);
+    let found = attacks(rules, task, position).into_iter().find(wins);
     Some(found.expect("a lost position has a winning attack"))
 }

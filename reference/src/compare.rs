@@ -1,8 +1,9 @@
 //! The plain comparer: reach everything, then settle round after round.
 
-use crate::certificate::{differ_certificate, equal_certificate};
+use crate::certificate::{kept_certificate, lost_certificate};
 use crate::game::{attacks, replies, Position};
 use crate::model::*;
+use crate::rules::Rules;
 use crate::task;
 use std::collections::BTreeMap;
 
@@ -26,11 +27,13 @@ impl Answer {
     }
 }
 
-/// Everything there is to know about a task that is not turned back.
+/// Everything there is to know about a task that is not turned back, in one
+/// game.
 #[derive(Clone, PartialEq, Eq, Debug)]
 pub struct Solution {
+    pub rules: Rules,
     pub verdict: Verdict,
-    /// 0 for EQUAL.
+    /// 0 where the start is never lost.
     pub rounds: u32,
     /// The positions reached, rising, with rounds or NEVER_LOST.
     pub entries: Vec<(Position, u32)>,
@@ -39,21 +42,21 @@ pub struct Solution {
 
 impl Solution {
     /// Puts a solution together from the settled positions.
-    pub fn new(task: &Task, entries: Vec<(Position, u32)>) -> Solution {
+    pub fn new(rules: Rules, task: &Task, entries: Vec<(Position, u32)>) -> Solution {
         let rounds_of = |p: &Position| {
             let place = entries.binary_search_by(|(q, _)| q.cmp(p)).expect("a reached position");
             Some(entries[place].1).filter(|&n| n != NEVER_LOST)
         };
         let start_rounds = rounds_of(&Position::start(task));
         let certificate = match start_rounds {
-            Some(_) => differ_certificate(task, rounds_of),
+            Some(_) => lost_certificate(rules, task, rounds_of),
             None => {
                 let kept = entries.iter().filter(|(_, n)| *n == NEVER_LOST);
-                equal_certificate(kept.map(|(p, _)| *p))
+                kept_certificate(rules, kept.map(|(p, _)| *p))
             }
         };
-        let verdict = if start_rounds.is_some() { Verdict::Differ } else { Verdict::Equal };
-        Solution { verdict, rounds: start_rounds.unwrap_or(0), entries, certificate }
+        let verdict = if start_rounds.is_some() { rules.lost } else { rules.kept };
+        Solution { rules, verdict, rounds: start_rounds.unwrap_or(0), entries, certificate }
     }
 
     /// The answer for a lent table and buffer, which are filled.
@@ -85,12 +88,12 @@ impl Solution {
 type Reach = BTreeMap<Position, Vec<Vec<Position>>>;
 
 /// For each attack of the position, where its replies lead.
-pub fn moves(task: &Task, position: &Position) -> Vec<Vec<Position>> {
+pub fn moves(rules: Rules, task: &Task, position: &Position) -> Vec<Vec<Position>> {
     let leads = |a| replies(task, position, a).iter().map(|r| r.leads_to).collect();
-    attacks(task, position).into_iter().map(leads).collect()
+    attacks(rules, task, position).into_iter().map(leads).collect()
 }
 
-/// Positions whose end marks differ are expanded like all others: the
+/// Positions that are lost in 0 rounds are expanded like all others: the
 /// papers make no exception for them.
 fn reach(starts: &[Position], moves: impl Fn(&Position) -> Vec<Vec<Position>>) -> Reach {
     let mut reached = Reach::new();
@@ -108,15 +111,16 @@ fn reach(starts: &[Position], moves: impl Fn(&Position) -> Vec<Vec<Position>>) -
 
 /// Rounds of every position of `reached`, by the papers' induction on the
 /// number of rounds. It is over as soon as one round adds nothing.
-fn settle(task: &Task, reached: &Reach) -> Vec<(Position, u32)> {
+fn settle(rules: Rules, task: &Task, reached: &Reach) -> Vec<(Position, u32)> {
     let place: BTreeMap<Position, usize> =
         reached.keys().enumerate().map(|(n, p)| (*p, n)).collect();
     let moves: Vec<Vec<Vec<usize>>> = reached
         .values()
         .map(|list| list.iter().map(|ts| ts.iter().map(|t| place[t]).collect()).collect())
         .collect();
+    let at_once = |p: &Position| p.is_lost_at_once(rules, task);
     let mut rounds: Vec<u32> =
-        reached.keys().map(|p| if p.end_marks_differ(task) { 0 } else { NEVER_LOST }).collect();
+        reached.keys().map(|p| if at_once(p) { 0 } else { NEVER_LOST }).collect();
     for round in 1.. {
         let lost = |p: &usize| rounds[*p] != NEVER_LOST;
         let newly: Vec<usize> = (0..moves.len())
@@ -133,25 +137,31 @@ fn settle(task: &Task, reached: &Reach) -> Vec<(Position, u32)> {
 }
 
 /// The positions reached from these legal positions, rising, with rounds.
-pub fn settle_from(task: &Task, starts: &[Position]) -> Vec<(Position, u32)> {
-    settle(task, &reach(starts, |p| moves(task, p)))
+pub fn settle_from(rules: Rules, task: &Task, starts: &[Position]) -> Vec<(Position, u32)> {
+    settle(rules, task, &reach(starts, |p| moves(rules, task, p)))
 }
 
-/// The same with other rules than the papers' (for tests of the tests).
+/// The same with other moves than the papers' (for tests of the tests).
 pub fn settle_by(
+    rules: Rules,
     task: &Task,
-    rules: impl Fn(&Position) -> Vec<Vec<Position>>,
+    moves: impl Fn(&Position) -> Vec<Vec<Position>>,
 ) -> Vec<(Position, u32)> {
-    settle(task, &reach(&[Position::start(task)], rules))
+    settle(rules, task, &reach(&[Position::start(task)], moves))
 }
 
-pub fn solve(task: &Task) -> Solution {
-    Solution::new(task, settle_from(task, &[Position::start(task)]))
+pub fn solve(rules: Rules, task: &Task) -> Solution {
+    Solution::new(rules, task, settle_from(rules, task, &[Position::start(task)]))
+}
+
+/// A comparison by any rules.
+pub fn compare_by(rules: Rules, bytes: &[u8], table: &mut [u8], buffer: &mut [u8]) -> Answer {
+    match task::read(bytes) {
+        Err(refusal) => Answer::refused(refusal),
+        Ok(task) => solve(rules, &task).deliver(table, buffer),
+    }
 }
 
 pub fn compare(bytes: &[u8], table: &mut [u8], buffer: &mut [u8]) -> Answer {
-    match task::read(bytes) {
-        Err(refusal) => Answer::refused(refusal),
-        Ok(task) => solve(&task).deliver(table, buffer),
-    }
+    compare_by(Rules::TWO_WAY, bytes, table, buffer)
 }

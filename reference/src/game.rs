@@ -1,6 +1,7 @@
 //! Symbolic positions, attacks and replies.
 
 use crate::model::*;
+use crate::rules::Rules;
 
 /// Two states and the partners of left registers 1 to 6 (0 is none). The
 /// derived order is the order of the eight position bytes.
@@ -86,8 +87,8 @@ impl Position {
         true
     }
 
-    pub fn end_marks_differ(&self, task: &Task) -> bool {
-        task.left.end_mark(self.left) != task.right.end_mark(self.right)
+    pub fn is_lost_at_once(&self, rules: Rules, task: &Task) -> bool {
+        rules.loses_at_once(task, self.left, self.right)
     }
 }
 
@@ -120,9 +121,9 @@ fn cases(task: &Task, position: &Position, side: Side, edge: &Edge) -> Vec<u8> {
 }
 
 /// All attacks of a position, in order of side, edge, case.
-pub fn attacks(task: &Task, position: &Position) -> Vec<Attack> {
+pub fn attacks(rules: Rules, task: &Task, position: &Position) -> Vec<Attack> {
     let mut list = Vec::new();
-    for side in Side::BOTH {
+    for &side in rules.attackers {
         for (number, edge) in task.model(side).edges_from(position.state(side)) {
             for case in cases(task, position, side, edge) {
                 list.push(Attack { side, edge: number, case });
@@ -132,15 +133,15 @@ pub fn attacks(task: &Task, position: &Position) -> Vec<Attack> {
     list
 }
 
-/// Whether an attack, given by its three bytes, exists in the position.
+/// The attack with these bytes, side, edge and case, if it exists in the
+/// position.
 pub fn existing_attack(
+    rules: Rules,
     task: &Task,
     position: &Position,
-    side: u8,
-    edge: u8,
-    case: u8,
+    [side, edge, case]: [u8; 3],
 ) -> Option<Attack> {
-    let side = Side::from_number(side)?;
+    let side = Side::from_number(side).filter(|&s| rules.attacks(s))?;
     let found = task.model(side).edges.get(edge as usize)?;
     let starts_here = found.from == position.state(side);
     let exists = starts_here && cases(task, position, side, found).contains(&case);

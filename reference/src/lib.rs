@@ -13,6 +13,7 @@ pub mod model;
 pub mod numbers;
 pub mod partner;
 pub mod random;
+pub mod rules;
 pub mod runner;
 pub mod tally;
 pub mod task;

@@ -182,12 +182,31 @@ pub enum Verdict {
 }
 
 impl Verdict {
+    pub const ALL: [Verdict; 2] = [Verdict::Equal, Verdict::Differ];
+
+    /// The kind of the records in a certificate for this verdict.
+    pub fn kind(self) -> u8 {
+        match self {
+            Verdict::Equal => 16,
+            Verdict::Differ => 17,
+        }
+    }
+
+    /// Whether the start is never lost.
+    pub fn is_kept(self) -> bool {
+        self == Verdict::Equal
+    }
+
     /// The number used in answers; 0 is kept for "no verdict".
     pub fn number(self) -> u32 {
         match self {
             Verdict::Equal => 1,
             Verdict::Differ => 2,
         }
+    }
+
+    pub fn from_number(number: u32) -> Option<Verdict> {
+        Verdict::ALL.into_iter().find(|v| v.number() == number)
     }
 
     pub fn name(self) -> &'static str {

@@ -5,6 +5,7 @@
 //! whether an edge takes a number is decided by looking at the numbers.
 
 use crate::model::*;
+use crate::rules::Rules;
 use std::collections::HashMap;
 
 /// Numbers stay below 64 here, so that a history is one machine word.
@@ -83,19 +84,20 @@ impl Setting {
     }
 }
 
-/// The game of one task. `new_numbers` is how many never-seen numbers are
-/// tried in each choice. There are endlessly many of them, and exchanging
+/// A game of one task; the chooser takes the sides that attack. `new_numbers`
+/// is how many never-seen numbers are tried in each choice. There are endlessly many of them, and exchanging
 /// two of them throughout changes nothing, so one is enough; more can be
 /// asked for to see that it is.
 pub struct Game<'a> {
+    rules: Rules,
     task: &'a Task,
     new_numbers: usize,
     known: HashMap<(Setting, u32), bool>,
 }
 
 impl<'a> Game<'a> {
-    pub fn new(task: &'a Task, new_numbers: usize) -> Game<'a> {
-        Game { task, new_numbers, known: HashMap::new() }
+    pub fn new(rules: Rules, task: &'a Task, new_numbers: usize) -> Game<'a> {
+        Game { rules, task, new_numbers, known: HashMap::new() }
     }
 
     /// The number of settings looked at so far.
@@ -104,9 +106,7 @@ impl<'a> Game<'a> {
     }
 
     pub fn forced_within(&mut self, setting: &Setting, rounds: u32) -> bool {
-        let left_mark = self.task.left.end_mark(setting.left.state);
-        let right_mark = self.task.right.end_mark(setting.right.state);
-        if left_mark != right_mark {
+        if self.rules.loses_at_once(self.task, setting.left.state, setting.right.state) {
             return true;
         }
         if rounds == 0 {
@@ -123,7 +123,7 @@ impl<'a> Game<'a> {
 
     fn some_choice_forces(&mut self, setting: &Setting, rounds: u32) -> bool {
         let task = self.task;
-        for side in Side::BOTH {
+        for &side in self.rules.attackers {
             let reader = setting.reader(side);
             for (_, edge) in task.model(side).edges_from(reader.state) {
                 for number in self.nameable(setting.history) {

@@ -11,6 +11,7 @@ use crate::generate::{item, item_of_kind, Item, ItemKind};
 use crate::model::{Task, Verdict};
 use crate::partner::{run_program, Adapter, Watch};
 use crate::random::Random;
+use crate::rules::Rules;
 use crate::tally::Tally;
 use crate::task;
 use crate::text::{compare_output, verdict_name, INPUT_LIMIT};
@@ -146,7 +147,7 @@ fn own_certificate(options: &Options) -> Result<Vec<u8>, String> {
     let bytes = task.ok_or("--sweep is for check with --task")?;
     let task =
         task::read(bytes).map_err(|r| format!("--sweep: the task is refused with {}", r.0))?;
-    Ok(baseline::solve(&task).certificate)
+    Ok(baseline::solve(Rules::TWO_WAY, &task).certificate)
 }
 
 impl Runner {
@@ -175,8 +176,8 @@ impl Runner {
     /// A given task may be too large for the plain comparer.
     fn solve(&self, task: &Task) -> Solution {
         match self.options.task {
-            Some(_) => baseline::solve(task),
-            None => solve(task),
+            Some(_) => baseline::solve(Rules::TWO_WAY, task),
+            None => solve(Rules::TWO_WAY, task),
         }
     }
 
@@ -272,7 +273,7 @@ impl Runner {
             _ => {
                 let parsed = task::read(&task).expect("not refused");
                 self.tally.add("refusal:0");
-                self.tally.add_outcome(&parsed, &solve(&parsed));
+                self.tally.add_outcome(&parsed, &solve(Rules::TWO_WAY, &parsed));
             }
         }
         (Question::Text(task), Reply::Text(text.into_bytes()))

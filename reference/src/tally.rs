@@ -1,6 +1,6 @@
 //! Named counts, for the quota table and for the runner's `--require`.
 
-use crate::certificate::{LOST, LOST_LENGTH};
+use crate::certificate::LOST_LENGTH;
 use crate::compare::Solution;
 use crate::game::{attacks, existing_attack, replies, Attack, Position};
 use crate::model::*;
@@ -29,10 +29,11 @@ impl Tally {
         let positions = solution.entries.len() as u32;
         self.add(format!("verdict:{}", solution.verdict.name()));
         self.add(format!("positions:{}", class(positions, &POSITION_CLASSES)));
-        if solution.verdict == Verdict::Differ {
+        if !solution.verdict.is_kept() {
             self.add_rounds(solution.rounds);
         } else if !task.pairs.is_empty() && positions >= 3 {
-            self.add("equal:matched-and-3-positions");
+            let word = solution.verdict.name().to_lowercase();
+            self.add(format!("{word}:matched-and-3-positions"));
         }
         if solution.rounds >= 3 {
             self.add("rounds:at-least-3");
@@ -50,7 +51,7 @@ impl Tally {
     /// Attack cases and meetings of edge kinds, each counted once a task.
     pub fn add_features(&mut self, task: &Task, solution: &Solution) {
         let mut keys = BTreeSet::new();
-        for (position, attack) in listed_attacks(task, &solution.certificate) {
+        for (position, attack) in listed_attacks(task, solution) {
             keys.insert(format!("case:{}", attack.case));
             for pair in reply_kinds(task, &position, attack) {
                 keys.insert(format!("certificate-reply:{pair}"));
@@ -58,7 +59,7 @@ impl Tally {
         }
         // A sample is enough where there are very many positions.
         for (position, _) in solution.entries.iter().take(300) {
-            for attack in attacks(task, position) {
+            for attack in attacks(solution.rules, task, position) {
                 for pair in reply_kinds(task, position, attack) {
                     keys.insert(format!("reply:{pair}"));
                 }
@@ -83,17 +84,18 @@ fn class(number: u32, lowest: &[u32]) -> String {
     }
 }
 
-/// The attacks that a certificate of kind 17 names and that exist.
-pub fn listed_attacks(task: &Task, certificate: &[u8]) -> Vec<(Position, Attack)> {
-    if certificate.first() != Some(&LOST) {
+/// The attacks that a solution's certificate names.
+pub fn listed_attacks(task: &Task, solution: &Solution) -> Vec<(Position, Attack)> {
+    if solution.verdict.is_kept() {
         return Vec::new();
     }
     let attack_of = |record: &[u8]| {
         let position = Position::from_bytes(&record[1..9]);
-        let attack = existing_attack(task, &position, record[9], record[10], record[11])?;
+        let fields = [record[9], record[10], record[11]];
+        let attack = existing_attack(solution.rules, task, &position, fields)?;
         Some((position, attack))
     };
-    certificate.chunks(LOST_LENGTH).filter_map(attack_of).collect()
+    solution.certificate.chunks(LOST_LENGTH).filter_map(attack_of).collect()
 }
 
 /// "attack kind-reply kind" for each reply.

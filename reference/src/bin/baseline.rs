@@ -1,6 +1,7 @@
 //! The heap baseline as a program: a task file, and what it took.
 
 use reference::baseline::solve;
+use reference::rules::Rules;
 use reference::task;
 use std::fs::read_to_string;
 use std::time::Instant;
@@ -18,7 +19,7 @@ fn main() {
     match task::read(&bytes) {
         Err(refusal) => println!("REFUSED {}", refusal.0),
         Ok(task) => {
-            let solution = solve(&task);
+            let solution = solve(Rules::TWO_WAY, &task);
             println!("verdict {}", solution.verdict.name());
             println!("positions {}", solution.entries.len());
             println!("rounds {}", solution.rounds);

@@ -6,6 +6,7 @@ use crate::compare::{settle_from, Solution, NEVER_LOST};
 use crate::game::{attacks, replies, Attack, Position};
 use crate::model::*;
 use crate::random::Random;
+use crate::rules::Rules;
 use std::collections::{BTreeMap, BTreeSet};
 
 #[derive(Clone, Copy, PartialEq, Eq, PartialOrd, Ord, Debug)]
@@ -18,7 +19,7 @@ pub enum ProposalKind {
     /// More positions than the comparer lists, and right.
     Larger,
     MoreRounds,
-    /// Positions whose end marks differ, lost by an attack instead; right.
+    /// Positions that are lost at once, lost by an attack instead; right.
     MarkedLater,
     /// An attack that does not exist, or does not win.
     WrongAttack,
@@ -78,23 +79,16 @@ impl ProposalKind {
     }
 }
 
-/// A kind 17 list before it is written.
+/// A list of lost positions before it is written.
 type LostList = BTreeMap<Position, (Option<Attack>, u32)>;
 
-fn lost_bytes(list: &LostList) -> Vec<u8> {
-    list.iter().flat_map(|(p, (attack, rounds))| lost_record(p, *attack, *rounds)).collect()
+fn lost_bytes(rules: Rules, list: &LostList) -> Vec<u8> {
+    list.iter().flat_map(|(p, (attack, rounds))| lost_record(rules, p, *attack, *rounds)).collect()
 }
 
-fn record_length(certificate: &[u8]) -> usize {
-    if certificate[0] == KEPT {
-        KEPT_LENGTH
-    } else {
-        LOST_LENGTH
-    }
-}
-
-fn cut_records(certificate: &[u8]) -> Vec<Vec<u8>> {
-    certificate.chunks(record_length(certificate)).map(|r| r.to_vec()).collect()
+fn cut_records(solution: &Solution) -> Vec<Vec<u8>> {
+    let length = record_length(solution.verdict);
+    solution.certificate.chunks(length).map(|r| r.to_vec()).collect()
 }
 
 pub fn random_kind(random: &mut Random) -> ProposalKind {
@@ -114,21 +108,21 @@ pub fn proposal(
         ProposalKind::Right => right.clone(),
         ProposalKind::ByteAltered => byte_altered(random, right),
         ProposalKind::Cut => right[..random.below(right.len())].to_vec(),
-        ProposalKind::Reordered => reordered(random, right),
-        ProposalKind::TwoKinds => two_kinds(random, right),
+        ProposalKind::Reordered => reordered(random, solution),
+        ProposalKind::TwoKinds => two_kinds(random, solution),
         ProposalKind::Larger => larger(random, task, solution),
         ProposalKind::MoreRounds => more_rounds(random, task, solution),
         ProposalKind::MarkedLater => marked_later(random, task, solution),
-        ProposalKind::WrongAttack => wrong_attack(random, right),
-        ProposalKind::OtherAttack => match solution.verdict {
-            Verdict::Equal => larger(random, task, solution),
-            Verdict::Differ => lost_bytes(&other_attacks(random, task, &solution.entries)),
-        },
+        ProposalKind::WrongAttack => wrong_attack(random, solution),
+        ProposalKind::OtherAttack if solution.verdict.is_kept() => larger(random, task, solution),
+        ProposalKind::OtherAttack => {
+            lost_bytes(solution.rules, &other_attacks(random, task, solution))
+        }
         ProposalKind::OtherVerdict => other_verdict(random, task, solution),
-        ProposalKind::RecordMissing => record_missing(random, right),
-        ProposalKind::IllegalPosition => illegal_position(random, right),
+        ProposalKind::RecordMissing => record_missing(random, solution),
+        ProposalKind::IllegalPosition => illegal_position(random, solution),
         ProposalKind::Empty => Vec::new(),
-        ProposalKind::Noise => noise(random),
+        ProposalKind::Noise => noise(random, solution.rules),
     }
 }
 
@@ -144,8 +138,8 @@ fn byte_altered(random: &mut Random, right: &[u8]) -> Vec<u8> {
 }
 
 /// Two records exchanged, or one written twice.
-fn reordered(random: &mut Random, right: &[u8]) -> Vec<u8> {
-    let mut list = cut_records(right);
+fn reordered(random: &mut Random, solution: &Solution) -> Vec<u8> {
+    let mut list = cut_records(solution);
     let place = random.below(list.len());
     if list.len() == 1 || random.chance(30) {
         let again = list[place].clone();
@@ -157,17 +151,18 @@ fn reordered(random: &mut Random, right: &[u8]) -> Vec<u8> {
     list.concat()
 }
 
-fn two_kinds(random: &mut Random, right: &[u8]) -> Vec<u8> {
-    let mut list = cut_records(right);
+fn two_kinds(random: &mut Random, solution: &Solution) -> Vec<u8> {
+    let rules = solution.rules;
+    let mut list = cut_records(solution);
     let place = random.below(list.len());
     let position = Position::from_bytes(&list[place][1..9]);
-    list[place] = match list[place][0] {
-        KEPT => lost_record(&position, None, 0),
-        _ => kept_record(&position),
+    list[place] = match solution.verdict.is_kept() {
+        true => lost_record(rules, &position, None, 0),
+        false => kept_record(rules, &position),
     };
     // A list of one record has one kind still; add the record it had.
     if list.len() == 1 {
-        list.push(right.to_vec());
+        list.push(solution.certificate.clone());
     }
     list.concat()
 }
@@ -188,31 +183,34 @@ fn random_position(random: &mut Random, task: &Task) -> Position {
 }
 
 /// The start, some further legal positions, and all that is reached.
-fn wider_reach(random: &mut Random, task: &Task) -> Vec<(Position, u32)> {
+fn wider_reach(random: &mut Random, rules: Rules, task: &Task) -> Vec<(Position, u32)> {
     let mut starts = vec![Position::start(task)];
     for _ in 0..random.between(1, 6) {
         starts.push(random_position(random, task));
     }
-    settle_from(task, &starts)
+    settle_from(rules, task, &starts)
 }
 
-/// A bisimulation, or an attack list, over more positions than needed.
+/// A set that holds together, or an attack list, over more positions than
+/// needed.
 fn larger(random: &mut Random, task: &Task, solution: &Solution) -> Vec<u8> {
-    let entries = wider_reach(random, task);
-    match solution.verdict {
-        Verdict::Equal => kept_bytes(&entries, |rounds| rounds == NEVER_LOST),
-        Verdict::Differ => lost_bytes(&all_lost(random, task, &entries)),
+    let rules = solution.rules;
+    let entries = wider_reach(random, rules, task);
+    match solution.verdict.is_kept() {
+        true => kept_bytes(rules, &entries, |rounds| rounds == NEVER_LOST),
+        false => lost_bytes(rules, &all_lost(random, rules, task, &entries)),
     }
 }
 
-fn kept_bytes(entries: &[(Position, u32)], wanted: impl Fn(u32) -> bool) -> Vec<u8> {
+fn kept_bytes(rules: Rules, entries: &[(Position, u32)], wanted: impl Fn(u32) -> bool) -> Vec<u8> {
     let kept = entries.iter().filter(|(_, rounds)| wanted(*rounds));
-    equal_certificate(kept.map(|(p, _)| *p))
+    kept_certificate(rules, kept.map(|(p, _)| *p))
 }
 
 /// Some attack of the position whose replies are all lost sooner.
 fn winning_attack(
     random: &mut Random,
+    rules: Rules,
     task: &Task,
     rounds_of: &BTreeMap<Position, u32>,
     position: &Position,
@@ -223,30 +221,35 @@ fn winning_attack(
     }
     let wins =
         |a: &Attack| replies(task, position, *a).iter().all(|r| rounds_of[&r.leads_to] < rounds);
-    let winning: Vec<Attack> = attacks(task, position).into_iter().filter(wins).collect();
+    let winning: Vec<Attack> = attacks(rules, task, position).into_iter().filter(wins).collect();
     Some(*random.pick(&winning))
 }
 
-fn all_lost(random: &mut Random, task: &Task, entries: &[(Position, u32)]) -> LostList {
+fn all_lost(
+    random: &mut Random,
+    rules: Rules,
+    task: &Task,
+    entries: &[(Position, u32)],
+) -> LostList {
     let rounds_of: BTreeMap<Position, u32> = entries.iter().copied().collect();
     let mut list = LostList::new();
     for &(position, rounds) in entries.iter().filter(|(_, r)| *r != NEVER_LOST) {
-        let attack = winning_attack(random, task, &rounds_of, &position);
+        let attack = winning_attack(random, rules, task, &rounds_of, &position);
         list.insert(position, (attack, rounds));
     }
     list
 }
 
 /// As the comparer's list, but with any winning attack.
-fn other_attacks(random: &mut Random, task: &Task, entries: &[(Position, u32)]) -> LostList {
-    let rounds_of: BTreeMap<Position, u32> = entries.iter().copied().collect();
+fn other_attacks(random: &mut Random, task: &Task, solution: &Solution) -> LostList {
+    let rounds_of: BTreeMap<Position, u32> = solution.entries.iter().copied().collect();
     let mut list = LostList::new();
     let mut open = vec![Position::start(task)];
     while let Some(position) = open.pop() {
         if list.contains_key(&position) {
             continue;
         }
-        let attack = winning_attack(random, task, &rounds_of, &position);
+        let attack = winning_attack(random, solution.rules, task, &rounds_of, &position);
         list.insert(position, (attack, rounds_of[&position]));
         if let Some(attack) = attack {
             open.extend(replies(task, &position, attack).iter().map(|r| r.leads_to));
@@ -257,50 +260,48 @@ fn other_attacks(random: &mut Random, task: &Task, entries: &[(Position, u32)]) 
 
 /// Rounds made larger in a way that keeps "fewer" as it was.
 fn more_rounds(random: &mut Random, task: &Task, solution: &Solution) -> Vec<u8> {
-    if solution.verdict == Verdict::Equal {
+    if solution.verdict.is_kept() {
         return solution.certificate.clone();
     }
-    let mut list = other_attacks(random, task, &solution.entries);
+    let mut list = other_attacks(random, task, solution);
     let factor = random.between(1, 1000) as u32;
     // The last one gives the start, which has the most rounds, all ones.
     let offset = *random.pick(&[0, 1, 255, 65_536, u32::MAX - solution.rounds * factor]);
     for (_, rounds) in list.values_mut().filter(|(_, rounds)| *rounds > 0) {
         *rounds = *rounds * factor + offset;
     }
-    lost_bytes(&list)
+    lost_bytes(solution.rules, &list)
 }
 
-/// Lists some positions whose end marks differ with an attack that wins.
+/// Lists some positions that are lost at once with an attack that wins.
 /// Their rounds and those of others rise by that; where the start could then
 /// not be listed, the right certificate comes back.
 fn marked_later(random: &mut Random, task: &Task, solution: &Solution) -> Vec<u8> {
-    let wanted = |position: &Position| !position.end_marks_differ(task) || random.chance(60);
+    let rules = solution.rules;
+    let wanted = |position: &Position| !position.is_lost_at_once(rules, task) || random.chance(60);
     let later: BTreeSet<Position> =
         solution.entries.iter().map(|(p, _)| *p).filter(wanted).collect();
-    let list = lost_by_attack(task, &solution.entries, &later);
-    if solution.verdict == Verdict::Equal || !list.contains_key(&Position::start(task)) {
+    let list = lost_by_attack(task, solution, &later);
+    if solution.verdict.is_kept() || !list.contains_key(&Position::start(task)) {
         return solution.certificate.clone();
     }
-    lost_bytes(&list)
+    lost_bytes(rules, &list)
 }
 
 /// All positions that are lost where those in `later` are lost by attacks
 /// alone, round after round.
-fn lost_by_attack(
-    task: &Task,
-    entries: &[(Position, u32)],
-    later: &BTreeSet<Position>,
-) -> LostList {
-    let at_once = entries.iter().filter(|(p, _)| !later.contains(p));
+fn lost_by_attack(task: &Task, solution: &Solution, later: &BTreeSet<Position>) -> LostList {
+    let at_once = solution.entries.iter().filter(|(p, _)| !later.contains(p));
     let mut list: LostList = at_once.map(|(p, _)| (*p, (None, 0))).collect();
     for round in 1.. {
         let wins = |p: &Position, a: &Attack| {
             replies(task, p, *a).iter().all(|r| list.contains_key(&r.leads_to))
         };
+        let attacks_of = |p: &Position| attacks(solution.rules, task, p).into_iter();
         let lost_now: LostList = later
             .iter()
             .filter(|p| !list.contains_key(p))
-            .filter_map(|p| Some((*p, attacks(task, p).into_iter().find(|a| wins(p, a))?)))
+            .filter_map(|p| Some((*p, attacks_of(p).find(|a| wins(p, a))?)))
             .map(|(p, attack)| (p, (Some(attack), round)))
             .collect();
         if lost_now.is_empty() {
@@ -312,12 +313,13 @@ fn lost_by_attack(
 }
 
 /// Changes side, edge, case or rounds of one record of an attack list.
-fn wrong_attack(random: &mut Random, right: &[u8]) -> Vec<u8> {
-    if right[0] == KEPT {
-        return byte_altered(random, right);
+fn wrong_attack(random: &mut Random, solution: &Solution) -> Vec<u8> {
+    if solution.verdict.is_kept() {
+        return byte_altered(random, &solution.certificate);
     }
-    let mut list = cut_records(right);
-    let record = &mut list[random.below(right.len() / LOST_LENGTH)];
+    let mut list = cut_records(solution);
+    let place = random.below(list.len());
+    let record = &mut list[place];
     match random.below(5) {
         0 => record[9] = *random.pick(&[0, 1, 2, 3, 255]),
         1 => record[10] = *random.pick(&[0, 1, 2, 3, 63, 64, 255]),
@@ -329,31 +331,28 @@ fn wrong_attack(random: &mut Random, right: &[u8]) -> Vec<u8> {
 }
 
 fn other_verdict(random: &mut Random, task: &Task, solution: &Solution) -> Vec<u8> {
-    match solution.verdict {
-        Verdict::Differ => {
-            let whole = random.chance(50);
-            kept_bytes(&solution.entries, |rounds| whole || rounds == NEVER_LOST)
-        }
-        Verdict::Equal => {
-            let mut list = LostList::new();
-            for &(position, _) in &solution.entries {
-                let all = attacks(task, &position);
-                let attack = (!all.is_empty()).then(|| *random.pick(&all));
-                list.insert(position, (attack, random.between(0, 3) as u32));
-            }
-            lost_bytes(&list)
-        }
+    let Solution { rules, ref entries, .. } = *solution;
+    if !solution.verdict.is_kept() {
+        let whole = random.chance(50);
+        return kept_bytes(rules, entries, |rounds| whole || rounds == NEVER_LOST);
     }
+    let mut list = LostList::new();
+    for &(position, _) in entries {
+        let all = attacks(rules, task, &position);
+        let attack = (!all.is_empty()).then(|| *random.pick(&all));
+        list.insert(position, (attack, random.between(0, 3) as u32));
+    }
+    lost_bytes(rules, &list)
 }
 
-fn record_missing(random: &mut Random, right: &[u8]) -> Vec<u8> {
-    let mut list = cut_records(right);
+fn record_missing(random: &mut Random, solution: &Solution) -> Vec<u8> {
+    let mut list = cut_records(solution);
     list.remove(random.below(list.len()));
     list.concat()
 }
 
-fn illegal_position(random: &mut Random, right: &[u8]) -> Vec<u8> {
-    let mut list = cut_records(right);
+fn illegal_position(random: &mut Random, solution: &Solution) -> Vec<u8> {
+    let mut list = cut_records(solution);
     let place = random.below(list.len());
     let record = &mut list[place];
     match random.below(3) {
@@ -364,11 +363,11 @@ fn illegal_position(random: &mut Random, right: &[u8]) -> Vec<u8> {
     list.concat()
 }
 
-fn noise(random: &mut Random) -> Vec<u8> {
+fn noise(random: &mut Random, rules: Rules) -> Vec<u8> {
     let length = random.between(1, 40);
     let mut bytes = random.bytes(length);
     if random.chance(70) {
-        bytes[0] = *random.pick(&[KEPT, LOST]);
+        bytes[0] = random.pick(&[rules.kept, rules.lost]).kind();
     }
     bytes
 }

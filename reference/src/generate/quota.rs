@@ -5,6 +5,7 @@ use super::{item, Item};
 use crate::check::check;
 use crate::compare::solve;
 use crate::random::Random;
+use crate::rules::Rules;
 use crate::tally::Tally;
 use crate::task;
 
@@ -20,7 +21,7 @@ pub fn measure_items(items: impl Iterator<Item = Item>) -> Tally {
         match task::read(&item.bytes) {
             Err(refusal) => tally.add(format!("refusal:{}", refusal.0)),
             Ok(task) => {
-                let solution = solve(&task);
+                let solution = solve(Rules::TWO_WAY, &task);
                 tally.add_outcome(&task, &solution);
                 tally.add_features(&task, &solution);
             }
@@ -37,7 +38,7 @@ pub fn measure_proposals(seed: u64, count: u64) -> Tally {
         let Ok(task) = task::read(&bytes) else {
             continue;
         };
-        let solution = solve(&task);
+        let solution = solve(Rules::TWO_WAY, &task);
         if solution.entries.len() > 1000 {
             continue;
         }

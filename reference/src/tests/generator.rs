@@ -11,6 +11,7 @@ use reference::generate::sweeps::Sweep;
 use reference::generate::*;
 use reference::model::{Task, Verdict};
 use reference::random::Random;
+use reference::rules::Rules;
 use reference::tally::Tally;
 use reference::task::read;
 use std::collections::BTreeSet;
@@ -95,7 +96,7 @@ fn proposed_certificates() {
 fn lists_marks_by_attack(task: &Task, certificate: &[u8]) -> bool {
     certificate.chunks(LOST_LENGTH).any(|record| {
         let position = Position::from_bytes(&record[1..9]);
-        position.end_marks_differ(task) && record[12..] != [0; 4]
+        position.is_lost_at_once(Rules::TWO_WAY, task) && record[12..] != [0; 4]
     })
 }
 
@@ -105,7 +106,7 @@ fn marked_later() {
         let Ok(task) = read(&item(9, index).bytes) else {
             continue;
         };
-        let solution = solve(&task);
+        let solution = solve(Rules::TWO_WAY, &task);
         let mut random = Random::for_item(9, index);
         let made = proposal(&mut random, &task, &solution, ProposalKind::MarkedLater);
         if solution.verdict == Verdict::Differ {
@@ -128,7 +129,8 @@ fn sweeps() {
 }
 
 fn stated_sizes() {
-    let solved = |name, sizes: &[usize]| solve(&family(name, sizes).expect("a family"));
+    let solved =
+        |name, sizes: &[usize]| solve(Rules::TWO_WAY, &family(name, sizes).expect("a family"));
     for positions in [1, 2, 3, 9, 210, 1547, 3999, 4000, 4001] {
         let solution = solved("exact", &[positions]);
         assert_eq!(solution.entries.len(), positions);

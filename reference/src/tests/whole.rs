@@ -11,6 +11,7 @@ use reference::generate::*;
 use reference::model::*;
 use reference::numbers::{opening, Game, Number};
 use reference::random::Random;
+use reference::rules::Rules;
 use reference::task::{read, write};
 use std::collections::{BTreeMap, BTreeSet};
 
@@ -77,7 +78,7 @@ fn actual_numbers() {
     let mut random = Random::new(71);
     let mut total = 0;
     for task in tasks(70, 12_000).filter(is_small) {
-        let solution = solve(&task);
+        let solution = solve(Rules::TWO_WAY, &task);
         let class = seen.entry(class_of(&solution)).or_insert(0);
         if *class == 400 {
             continue;
@@ -85,7 +86,7 @@ fn actual_numbers() {
         *class += 1;
         total += 1;
         let setting = random_opening(&mut random, &task);
-        assert_least_count(&mut Game::new(&task, 1), &setting, &solution);
+        assert_least_count(&mut Game::new(Rules::TWO_WAY, &task, 1), &setting, &solution);
     }
     println!("       tasks by rounds: {seen:?}");
     assert!(total >= 500, "{total} tasks");
@@ -98,7 +99,8 @@ fn two_new_numbers() {
     let mut random = Random::new(73);
     for task in tasks(72, 2000).filter(is_small).take(300) {
         let setting = random_opening(&mut random, &task);
-        let (mut one, mut two) = (Game::new(&task, 1), Game::new(&task, 2));
+        let (mut one, mut two) =
+            (Game::new(Rules::TWO_WAY, &task, 1), Game::new(Rules::TWO_WAY, &task, 2));
         for count in 0..=3 {
             let answers = [&mut one, &mut two].map(|g| g.forced_within(&setting, count));
             assert_eq!(answers[0], answers[1]);
@@ -119,16 +121,18 @@ fn short_history() {
     let pairs = (1..=6).map(|r| (r, r)).collect();
     let task = Task { left: model(Kind::LocallyFresh), right: model(Kind::GloballyFresh), pairs };
     let numbers: Vec<Number> = (0..40).collect();
-    let force = |history| Game::new(&task, 1).forced_within(&opening(&task, &numbers, history), 1);
+    let force = |history| {
+        Game::new(Rules::TWO_WAY, &task, 1).forced_within(&opening(&task, &numbers, history), 1)
+    };
     assert!(!force(6));
     assert!(force(7));
     assert!(force(13));
-    assert_eq!(solve(&task).rounds, 1);
+    assert_eq!(solve(Rules::TWO_WAY, &task).rounds, 1);
 }
 
 fn own_certificates() {
     for task in tasks(80, 3000) {
-        let solution = solve(&task);
+        let solution = solve(Rules::TWO_WAY, &task);
         let answer = check(&write(&task), &solution.certificate);
         assert_eq!(answer.refusal, 0);
         assert_eq!((answer.verdict, answer.rounds), (solution.verdict.number(), solution.rounds));
@@ -138,10 +142,10 @@ fn own_certificates() {
 }
 
 /// A listed attack: side, edge and case as bytes.
-type AttackBytes = (u8, u8, u8);
+type AttackBytes = [u8; 3];
 
 fn wins(task: &Task, rounds_of: &BTreeMap<Position, u32>, p: &Position, a: AttackBytes) -> bool {
-    let Some(attack) = existing_attack(task, p, a.0, a.1, a.2) else {
+    let Some(attack) = existing_attack(Rules::TWO_WAY, task, p, a) else {
         return false;
     };
     let sooner = |r: &Reply| rounds_of[&r.leads_to] < rounds_of[p];
@@ -155,14 +159,14 @@ fn first_by_bytes(
     p: &Position,
 ) -> Option<AttackBytes> {
     let edges = (1..=2).flat_map(|side| (0..64).map(move |edge| (side, edge)));
-    let mut triples = edges.flat_map(|(side, edge)| (0..=8).map(move |case| (side, edge, case)));
+    let mut triples = edges.flat_map(|(side, edge)| (0..=8).map(move |case| [side, edge, case]));
     triples.find(|&a| wins(task, rounds_of, p, a))
 }
 
 fn attack_lists() {
     let mut lists = 0;
     for task in tasks(84, 3000) {
-        let solution = solve(&task);
+        let solution = solve(Rules::TWO_WAY, &task);
         if solution.verdict == Verdict::Equal || solution.entries.len() > 500 {
             continue;
         }
@@ -178,16 +182,16 @@ fn check_attack_list(task: &Task, solution: &Solution) {
     let mut listed = BTreeSet::new();
     for record in solution.certificate.chunks(16) {
         let position = Position::from_bytes(&record[1..9]);
-        let fields = (record[9], record[10], record[11]);
+        let fields = [record[9], record[10], record[11]];
         let rounds = u32::from_be_bytes([record[12], record[13], record[14], record[15]]);
         assert_eq!(rounds, rounds_of[&position]);
         listed.insert(position);
         if rounds == 0 {
-            assert_eq!(fields, (0, 0, 0));
+            assert_eq!(fields, [0, 0, 0]);
             continue;
         }
         assert_eq!(Some(fields), first_by_bytes(task, &rounds_of, &position));
-        let attack = existing_attack(task, &position, fields.0, fields.1, fields.2);
+        let attack = existing_attack(Rules::TWO_WAY, task, &position, fields);
         let list = replies(task, &position, attack.expect("an attack"));
         led_to.extend(list.iter().map(|r| r.leads_to));
     }
@@ -198,7 +202,7 @@ fn check_attack_list(task: &Task, solution: &Solution) {
 
 fn exchanged_sides() {
     for task in tasks(81, 3000) {
-        let (one, two) = (solve(&task), solve(&task.exchanged()));
+        let (one, two) = (solve(Rules::TWO_WAY, &task), solve(Rules::TWO_WAY, &task.exchanged()));
         assert_eq!((one.verdict, one.rounds), (two.verdict, two.rounds));
         assert_eq!(one.entries.len(), two.entries.len());
     }
@@ -207,7 +211,7 @@ fn exchanged_sides() {
 fn lent_sizes() {
     let mut random = Random::new(82);
     for task in tasks(82, 120) {
-        let solution = solve(&task);
+        let solution = solve(Rules::TWO_WAY, &task);
         let (entries, needed) = (solution.entries.len(), solution.certificate.len());
         if entries > 12 {
             continue;
@@ -268,12 +272,12 @@ fn rounds_at_start(task: &Task, entries: &[(Position, u32)]) -> u32 {
 fn mistakes() {
     let mut shown = [0; 5];
     for task in tasks(83, 4000) {
-        let right = settle_from(&task, &[Position::start(&task)]);
+        let right = settle_from(Rules::TWO_WAY, &task, &[Position::start(&task)]);
         if right.len() > 300 {
             continue;
         }
         for mistake in 0..3 {
-            let entries = settle_by(&task, |p| mistaken_moves(mistake, &task, p));
+            let entries = settle_by(Rules::TWO_WAY, &task, |p| mistaken_moves(mistake, &task, p));
             shown[mistake] += (entries != right) as u32;
         }
         let rounds = rounds_at_start(&task, &right);
@@ -291,9 +295,9 @@ fn numbers_show_mistakes() {
     let mut random = Random::new(75);
     for task in tasks(74, 6000).filter(is_small) {
         let setting = random_opening(&mut random, &task);
-        let mut game = Game::new(&task, 1);
+        let mut game = Game::new(Rules::TWO_WAY, &task, 1);
         for mistake in 0..3 {
-            let entries = settle_by(&task, |p| mistaken_moves(mistake, &task, p));
+            let entries = settle_by(Rules::TWO_WAY, &task, |p| mistaken_moves(mistake, &task, p));
             let rounds = rounds_at_start(&task, &entries);
             let disagrees =
                 |n: u32, game: &mut Game| game.forced_within(&setting, n) != (rounds <= n);
@@ -311,7 +315,7 @@ fn kept_moves(
     attack_kept: impl Fn(&Attack) -> bool,
     replies_kept: impl Fn(&Attack, bool) -> bool,
 ) -> Vec<Vec<Position>> {
-    let kept = attacks(task, position).into_iter().filter(|a| attack_kept(a));
+    let kept = attacks(Rules::TWO_WAY, task, position).into_iter().filter(|a| attack_kept(a));
     kept.map(|attack| {
         let edge = task.model(attack.side).edges[attack.edge as usize];
         let partnered = position.partner(attack.side, edge.register).is_some();
@@ -324,7 +328,7 @@ fn kept_moves(
 /// Old partners stay wherever the to sets let them, though their register
 /// was written.
 fn forgetful_moves(task: &Task, position: &Position) -> Vec<Vec<Position>> {
-    let mut all = moves(task, position);
+    let mut all = moves(Rules::TWO_WAY, task, position);
     for next in all.iter_mut().flatten() {
         let (left, right) = (task.left.set(next.left), task.right.set(next.right));
         for (index, &old) in position.partners.iter().enumerate() {
@@ -345,8 +349,10 @@ fn believing(task: &Task) -> bool {
             return known;
         }
         memory.insert(p, true);
-        let answer = !p.end_marks_differ(task)
-            && moves(task, &p).iter().all(|ts| ts.iter().any(|&t| holds(task, t, memory)));
+        let answer = !p.is_lost_at_once(Rules::TWO_WAY, task)
+            && moves(Rules::TWO_WAY, task, &p)
+                .iter()
+                .all(|ts| ts.iter().any(|&t| holds(task, t, memory)));
         memory.insert(p, answer);
         answer
     }
@@ -355,7 +361,7 @@ fn believing(task: &Task) -> bool {
 
 fn baseline_agrees() {
     for task in tasks(90, 6000) {
-        assert!(baseline::solve(&task) == solve(&task), "{task:?}");
+        assert!(baseline::solve(Rules::TWO_WAY, &task) == solve(Rules::TWO_WAY, &task), "{task:?}");
     }
     for (name, sizes) in [
         ("dearest", &[5][..]),
@@ -367,25 +373,33 @@ fn baseline_agrees() {
         ("rings", &[16, 15]),
     ] {
         let task = family(name, sizes).expect("a family");
-        assert!(baseline::solve(&task) == solve(&task), "{name}");
+        assert!(baseline::solve(Rules::TWO_WAY, &task) == solve(Rules::TWO_WAY, &task), "{name}");
     }
 }
 
 fn dearest_counts() {
     for (registers, wanted) in [1, 2, 7, 34, 209, 1546, 13327].into_iter().enumerate() {
         let task = family("dearest", &[registers]).expect("dearest");
-        assert_eq!(solve(&task).entries.len(), wanted, "{registers} registers, plain");
-        assert_eq!(baseline::settled_positions(&task).len(), wanted, "{registers} registers");
+        assert_eq!(
+            solve(Rules::TWO_WAY, &task).entries.len(),
+            wanted,
+            "{registers} registers, plain"
+        );
+        assert_eq!(
+            baseline::settled_positions(Rules::TWO_WAY, &task).len(),
+            wanted,
+            "{registers} registers"
+        );
     }
 }
 
 fn chain_rounds() {
     for states in 1..=16 {
-        let solution = solve(&family("chain", &[states]).expect("chain"));
+        let solution = solve(Rules::TWO_WAY, &family("chain", &[states]).expect("chain"));
         assert_eq!((solution.verdict, solution.rounds as usize), (Verdict::Differ, states - 1));
     }
     for long in 3..=16 {
-        let solution = solve(&family("rings", &[long, long - 1]).expect("rings"));
+        let solution = solve(Rules::TWO_WAY, &family("rings", &[long, long - 1]).expect("rings"));
         assert_eq!(solution.rounds as usize, 2 * long - 3);
         assert_eq!(solution.entries.len(), long * (long - 1));
     }
@@ -394,6 +408,6 @@ fn chain_rounds() {
 fn large_ring() {
     let task = family("ring", &[16, 6]).expect("ring");
     assert_eq!(read(&write(&task)).as_ref(), Ok(&task));
-    let count = baseline::settled_positions(&task).len();
+    let count = baseline::settled_positions(Rules::TWO_WAY, &task).len();
     assert!(count > 3_000_000 && count <= 3_411_712, "{count}");
 }

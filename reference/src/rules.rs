@@ -1,0 +1,43 @@
+//! The rules of a game, as a value. All that a game can have for itself
+//! stands here: who attacks, which end marks lose, what the verdicts are.
+//! Positions, replies and rounds are the same in every game.
+
+use crate::model::{Side, Task, Verdict};
+
+#[derive(Clone, Copy, PartialEq, Eq, Debug)]
+pub struct Rules {
+    pub name: &'static str,
+    /// The sides that attack, by their numbers.
+    pub attackers: &'static [Side],
+    /// The left and the right end mark of what is lost in 0 rounds.
+    pub losing_marks: &'static [(u8, u8)],
+    /// The verdict where the start is never lost.
+    pub kept: Verdict,
+    /// The verdict where it is lost.
+    pub lost: Verdict,
+}
+
+impl Rules {
+    pub const TWO_WAY: Rules = Rules {
+        name: "two-way",
+        attackers: &Side::BOTH,
+        losing_marks: &[(0, 1), (1, 0)],
+        kept: Verdict::Equal,
+        lost: Verdict::Differ,
+    };
+
+    pub fn attacks(&self, side: Side) -> bool {
+        self.attackers.contains(&side)
+    }
+
+    /// Whether these two states are lost in 0 rounds.
+    pub fn loses_at_once(&self, task: &Task, left: u8, right: u8) -> bool {
+        let marks = (task.left.end_mark(left), task.right.end_mark(right));
+        self.losing_marks.contains(&marks)
+    }
+
+    /// The verdict that a certificate's kind stands for in this game.
+    pub fn verdict_of_kind(&self, kind: u8) -> Option<Verdict> {
+        [self.kept, self.lost].into_iter().find(|v| v.kind() == kind)
+    }
+}

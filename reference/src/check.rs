@@ -126,6 +126,12 @@ pub fn check_by(rules: Rules, bytes: &[u8], certificate: &[u8]) -> CheckAnswer {
     }
 }
 
+/// Takes kinds 16 and 17.
 pub fn check(bytes: &[u8], certificate: &[u8]) -> CheckAnswer {
     check_by(Rules::TWO_WAY, bytes, certificate)
+}
+
+/// Takes kinds 18 and 19, by the game in which only the left side attacks.
+pub fn check_one_way(bytes: &[u8], certificate: &[u8]) -> CheckAnswer {
+    check_by(Rules::ONE_WAY, bytes, certificate)
 }

@@ -162,6 +162,12 @@ pub fn compare_by(rules: Rules, bytes: &[u8], table: &mut [u8], buffer: &mut [u8
     }
 }
 
+/// EQUAL or DIFFER.
 pub fn compare(bytes: &[u8], table: &mut [u8], buffer: &mut [u8]) -> Answer {
     compare_by(Rules::TWO_WAY, bytes, table, buffer)
+}
+
+/// FOLLOWS or FALLS SHORT: only the left side attacks.
+pub fn compare_one_way(bytes: &[u8], table: &mut [u8], buffer: &mut [u8]) -> Answer {
+    compare_by(Rules::ONE_WAY, bytes, table, buffer)
 }

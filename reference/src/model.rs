@@ -179,22 +179,22 @@ impl Task {
 pub enum Verdict {
     Equal,
     Differ,
+    Follows,
+    FallsShort,
 }
 
 impl Verdict {
-    pub const ALL: [Verdict; 2] = [Verdict::Equal, Verdict::Differ];
+    pub const ALL: [Verdict; 4] =
+        [Verdict::Equal, Verdict::Differ, Verdict::Follows, Verdict::FallsShort];
 
     /// The kind of the records in a certificate for this verdict.
     pub fn kind(self) -> u8 {
-        match self {
-            Verdict::Equal => 16,
-            Verdict::Differ => 17,
-        }
+        16 + self as u8
     }
 
     /// Whether the start is never lost.
     pub fn is_kept(self) -> bool {
-        self == Verdict::Equal
+        matches!(self, Verdict::Equal | Verdict::Follows)
     }
 
     /// The number used in answers; 0 is kept for "no verdict".
@@ -202,6 +202,8 @@ impl Verdict {
         match self {
             Verdict::Equal => 1,
             Verdict::Differ => 2,
+            Verdict::Follows => 18,
+            Verdict::FallsShort => 19,
         }
     }
 
@@ -210,10 +212,12 @@ impl Verdict {
     }
 
     pub fn name(self) -> &'static str {
-        match self {
-            Verdict::Equal => "EQUAL",
-            Verdict::Differ => "DIFFER",
-        }
+        ["EQUAL", "DIFFER", "FOLLOWS", "FALLS SHORT"][self as usize]
+    }
+
+    /// The name without a space, for counts.
+    pub fn key(self) -> String {
+        self.name().replace(' ', "-")
     }
 }
 

@@ -18,6 +18,7 @@ pub struct Rules {
 }
 
 impl Rules {
+    /// Either side attacks.
     pub const TWO_WAY: Rules = Rules {
         name: "two-way",
         attackers: &Side::BOTH,
@@ -25,6 +26,18 @@ impl Rules {
         kept: Verdict::Equal,
         lost: Verdict::Differ,
     };
+
+    /// Only the left side attacks, and only a left end mark 1 against a right
+    /// one 0 loses.
+    pub const ONE_WAY: Rules = Rules {
+        name: "one-way",
+        attackers: &[Side::Left],
+        losing_marks: &[(1, 0)],
+        kept: Verdict::Follows,
+        lost: Verdict::FallsShort,
+    };
+
+    pub const ALL: [Rules; 2] = [Rules::TWO_WAY, Rules::ONE_WAY];
 
     pub fn attacks(&self, side: Side) -> bool {
         self.attackers.contains(&side)

@@ -27,12 +27,12 @@ impl Tally {
     /// Verdict, rounds and positions, in coarse classes.
     pub fn add_outcome(&mut self, task: &Task, solution: &Solution) {
         let positions = solution.entries.len() as u32;
-        self.add(format!("verdict:{}", solution.verdict.name()));
+        self.add(format!("verdict:{}", solution.verdict.key()));
         self.add(format!("positions:{}", class(positions, &POSITION_CLASSES)));
         if !solution.verdict.is_kept() {
             self.add_rounds(solution.rounds);
         } else if !task.pairs.is_empty() && positions >= 3 {
-            let word = solution.verdict.name().to_lowercase();
+            let word = solution.verdict.key().to_lowercase();
             self.add(format!("{word}:matched-and-3-positions"));
         }
         if solution.rounds >= 3 {

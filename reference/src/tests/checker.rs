@@ -2,7 +2,8 @@
 
 use crate::marked::{hex, model_g, model_p, task_11, task_of};
 use crate::Test;
-use reference::check::{check, CheckAnswer};
+use reference::check::{check_by, CheckAnswer};
+use reference::rules::Rules;
 
 pub const TESTS: &[Test] = &[
     ("checker: bisimulations", bisimulations),
@@ -19,13 +20,17 @@ fn differ(rounds: u32) -> CheckAnswer {
     CheckAnswer { refusal: 0, verdict: 2, rounds }
 }
 
-fn refused(refusal: u32) -> CheckAnswer {
+pub fn refused(refusal: u32) -> CheckAnswer {
     CheckAnswer { refusal, verdict: 0, rounds: 0 }
 }
 
-fn expect(task: &[u8], certificate: &[&str], wanted: CheckAnswer) {
+pub fn expect_by(rules: Rules, task: &[u8], certificate: &[&str], wanted: CheckAnswer) {
     let text = certificate.concat();
-    assert_eq!(check(task, &hex(&text)), wanted, "{text}");
+    assert_eq!(check_by(rules, task, &hex(&text)), wanted, "{} {text}", rules.name);
+}
+
+fn expect(task: &[u8], certificate: &[&str], wanted: CheckAnswer) {
+    expect_by(Rules::TWO_WAY, task, certificate, wanted);
 }
 
 const START: &str = "10 00 00 00 00 00 00 00 00 ";

@@ -4,6 +4,7 @@
 mod checker;
 mod generator;
 mod marked;
+mod one_way;
 mod reader;
 mod runner;
 mod whole;
@@ -19,6 +20,7 @@ fn main() {
         marked::TESTS,
         reader::TESTS,
         checker::TESTS,
+        one_way::TESTS,
         whole::TESTS,
         generator::TESTS,
         runner::TESTS,

@@ -1,8 +1,9 @@
 //! The eleven marked cases, and the sample output.
 
 use crate::Test;
-use reference::compare::{compare, Answer};
+use reference::compare::{compare_by, Answer};
 use reference::model::*;
+use reference::rules::Rules;
 use reference::task::{model_records, read, record, write, END, PAIR};
 use reference::text::compare_output;
 
@@ -39,7 +40,7 @@ pub fn task_of(left: Vec<u8>, right: Vec<u8>, pairs: &[[u8; 2]]) -> Vec<u8> {
 }
 
 /// Every state holds register 1; known edges as from, tag, to.
-fn known_model(states: u8, edges: &[[u8; 3]]) -> Vec<u8> {
+pub fn known_model(states: u8, edges: &[[u8; 3]]) -> Vec<u8> {
     let state = State { set: RegisterSet(1), end_mark: 0 };
     let edge = |&[from, tag, to]: &[u8; 3]| Edge { from, tag, kind: Kind::Known, register: 1, to };
     let model = Model {
@@ -52,11 +53,20 @@ fn known_model(states: u8, edges: &[[u8; 3]]) -> Vec<u8> {
 }
 
 /// The answer with table and buffer of these sizes, filled with 0xA5.
-fn run(task: &[u8], table_size: usize, buffer_size: usize) -> (Answer, Vec<u8>, Vec<u8>) {
+pub fn run_by(
+    rules: Rules,
+    task: &[u8],
+    table_size: usize,
+    buffer_size: usize,
+) -> (Answer, Vec<u8>, Vec<u8>) {
     let mut table = vec![0xa5; table_size];
     let mut buffer = vec![0xa5; buffer_size];
-    let answer = compare(task, &mut table, &mut buffer);
+    let answer = compare_by(rules, task, &mut table, &mut buffer);
     (answer, table, buffer)
+}
+
+fn run(task: &[u8], table_size: usize, buffer_size: usize) -> (Answer, Vec<u8>, Vec<u8>) {
+    run_by(Rules::TWO_WAY, task, table_size, buffer_size)
 }
 
 fn roomy(task: &[u8]) -> Answer {
@@ -71,7 +81,7 @@ fn differ(positions: u32, rounds: u32, certificate_length: u32) -> Answer {
     Answer { refusal: 0, verdict: 2, positions, rounds, certificate_length }
 }
 
-fn refused(refusal: u32) -> Answer {
+pub fn refused(refusal: u32) -> Answer {
     Answer { refusal, ..Answer::default() }
 }
 

@@ -57,12 +57,12 @@ fn random_opening(random: &mut Random, task: &Task) -> reference::numbers::Setti
     opening(task, &numbers, random.between(13, 16))
 }
 
-/// EQUAL, or the rounds, or "more" than brute force looks at.
+/// "never", or the rounds, or "more" than brute force looks at.
 fn class_of(solution: &Solution) -> String {
-    match solution.verdict {
-        Verdict::Equal => "EQUAL".to_string(),
-        Verdict::Differ if solution.rounds > MOST_ROUNDS => "more".to_string(),
-        Verdict::Differ => solution.rounds.to_string(),
+    match solution.verdict.is_kept() {
+        true => "never".to_string(),
+        false if solution.rounds > MOST_ROUNDS => "more".to_string(),
+        false => solution.rounds.to_string(),
     }
 }
 
@@ -90,7 +90,7 @@ fn actual_numbers() {
     }
     println!("       tasks by rounds: {seen:?}");
     assert!(total >= 500, "{total} tasks");
-    for class in ["0", "1", "2", "3", "4", "EQUAL"] {
+    for class in ["0", "1", "2", "3", "4", "never"] {
         assert!(seen.get(class).is_some_and(|&n| n >= 50), "few of class {class}");
     }
 }

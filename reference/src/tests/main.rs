@@ -2,6 +2,7 @@
 //! "N passed, M failed". Arguments choose tests by a part of their name.
 
 mod checker;
+mod games;
 mod generator;
 mod marked;
 mod one_way;
@@ -22,6 +23,7 @@ fn main() {
         checker::TESTS,
         one_way::TESTS,
         whole::TESTS,
+        games::TESTS,
         generator::TESTS,
         runner::TESTS,
     ];

@@ -5,6 +5,7 @@ use crate::marked::{hex, known_model, model_g, model_p, refused, run_by, task_11
 use crate::Test;
 use reference::check::{check, check_one_way, CheckAnswer};
 use reference::compare::{compare_one_way, Answer};
+use reference::numbers::{opening, Game, Number};
 use reference::rules::Rules;
 use reference::task::{read, write};
 use reference::text::compare_output_by;
@@ -16,6 +17,7 @@ pub const TESTS: &[Test] = &[
     ("one-way: the other marked cases", marked_cases),
     ("one-way: lent sizes of cases 9 and 10", marked_sizes),
     ("one-way: a right side that can do more", more_on_the_right),
+    ("one-way: actual numbers", actual_numbers),
     ("one-way: printed lines", printed),
     ("one-way checker: sets and attacks", sets_and_attacks),
     ("one-way checker: the other game's kinds meet 13", other_kinds),
@@ -131,6 +133,25 @@ fn richer_right() -> Vec<u8> {
 fn more_on_the_right() {
     assert_eq!(roomy(&richer_right()), follows(1, 9));
     assert_eq!(roomy(&exchanged(&richer_right())), falls_short(1, 0, 16));
+}
+
+/// The least count up to 6 that is enough, or None.
+fn least_count(task: &[u8]) -> Option<u32> {
+    let task = read(task).expect("a valid task");
+    let numbers: Vec<Number> = (0..40).collect();
+    let setting = opening(&task, &numbers, 13);
+    (0..=6).find(|&count| Game::new(ONE_WAY, &task, 1).forced_within(&setting, count))
+}
+
+fn actual_numbers() {
+    assert_eq!(least_count(&task_11()), Some(2));
+    assert_eq!(least_count(&exchanged(&task_11())), None);
+    assert_eq!(least_count(&idle_task("01", "00")), Some(0));
+    assert_eq!(least_count(&idle_task("00", "01")), None);
+    assert_eq!(least_count(&richer_right()), None);
+    assert_eq!(least_count(&exchanged(&richer_right())), Some(0));
+    assert_eq!(least_count(&task_of(model_p(), model_g(), &[])), Some(1));
+    assert_eq!(least_count(&task_of(model_g(), model_p(), &[])), None);
 }
 
 fn printed() {

@@ -1,38 +1,49 @@
-//! Properties of whole tasks: actual numbers, certificates, exchange of
-//! sides, lent sizes, the baseline, the families.
+//! Properties of whole tasks, by each of the games: actual numbers,
+//! certificates, exchange of sides, lent sizes, the baseline, the families.
 
 use crate::Test;
 use reference::baseline;
-use reference::check::check;
+use reference::check::check_by;
 use reference::compare::*;
 use reference::game::*;
 use reference::generate::families::family;
 use reference::generate::*;
 use reference::model::*;
-use reference::numbers::{opening, Game, Number};
+use reference::numbers::{opening, Game, Number, Setting};
 use reference::random::Random;
 use reference::rules::Rules;
 use reference::task::{read, write};
 use std::collections::{BTreeMap, BTreeSet};
 
 pub const TESTS: &[Test] = &[
-    ("actual numbers: least count is the rounds", actual_numbers),
+    ("actual numbers: least count is the rounds", || actual_numbers(Rules::TWO_WAY, 12_000)),
+    ("actual numbers: least count is the rounds, one-way", || {
+        actual_numbers(Rules::ONE_WAY, 20_000)
+    }),
     ("actual numbers: one never-seen number is enough", two_new_numbers),
     ("actual numbers: the history matters", short_history),
     ("actual numbers: mistaken rules are contradicted", numbers_show_mistakes),
-    ("whole: own certificates are accepted", own_certificates),
-    ("whole: attack lists have first attacks, are closed and no longer", attack_lists),
+    ("whole: own certificates are accepted", || own_certificates(Rules::TWO_WAY)),
+    ("whole: own certificates are accepted, one-way", || own_certificates(Rules::ONE_WAY)),
+    ("whole: attack lists have first attacks, are closed and no longer", || {
+        attack_lists(Rules::TWO_WAY)
+    }),
+    ("whole: attack lists have first attacks, are closed and no longer, one-way", || {
+        attack_lists(Rules::ONE_WAY)
+    }),
     ("whole: exchanging sides keeps verdict, rounds and positions", exchanged_sides),
-    ("whole: every lent size", lent_sizes),
+    ("whole: every lent size", || lent_sizes(Rules::TWO_WAY)),
+    ("whole: every lent size, one-way", || lent_sizes(Rules::ONE_WAY)),
     ("whole: known mistakes are found by the items", mistakes),
-    ("baseline: same answers as the plain comparer", baseline_agrees),
+    ("baseline: same answers as the plain comparer", || baseline_agrees(Rules::TWO_WAY)),
+    ("baseline: same answers as the plain comparer, one-way", || baseline_agrees(Rules::ONE_WAY)),
     ("families: dearest counts", dearest_counts),
     ("families: rounds of chains and rings", chain_rounds),
     ("families: ring of 16 states and 6 registers", large_ring),
 ];
 
 /// Valid tasks among the items of a seed.
-fn tasks(seed: u64, count: u64) -> impl Iterator<Item = Task> {
+pub fn tasks(seed: u64, count: u64) -> impl Iterator<Item = Task> {
     (0..count).filter_map(move |index| read(&item(seed, index).bytes).ok())
 }
 
@@ -40,7 +51,7 @@ fn tasks(seed: u64, count: u64) -> impl Iterator<Item = Task> {
 const MOST_ROUNDS: u32 = 5;
 
 /// Small enough for brute force: 1 to 3 registers in use, 1 to 4 states.
-fn is_small(task: &Task) -> bool {
+pub fn is_small(task: &Task) -> bool {
     Side::BOTH.iter().all(|&side| {
         let model = task.model(side);
         let held = model.states.iter().fold(0, |all, s| all | s.set.0);
@@ -51,7 +62,7 @@ fn is_small(task: &Task) -> bool {
 }
 
 /// An opening with numbers drawn at random and a history of 13 to 16.
-fn random_opening(random: &mut Random, task: &Task) -> reference::numbers::Setting {
+pub fn random_opening(random: &mut Random, task: &Task) -> Setting {
     let mut numbers: Vec<Number> = (0..50).collect();
     random.shuffle(&mut numbers);
     opening(task, &numbers, random.between(13, 16))
@@ -66,19 +77,21 @@ fn class_of(solution: &Solution) -> String {
     }
 }
 
-fn assert_least_count(game: &mut Game, setting: &reference::numbers::Setting, solution: &Solution) {
+/// The rounds are the least count that is enough with actual numbers.
+pub fn assert_least_count(task: &Task, setting: &Setting, solution: &Solution) {
+    let mut game = Game::new(solution.rules, task, 1);
     for count in 0..=MOST_ROUNDS {
-        let lost = solution.verdict == Verdict::Differ && solution.rounds <= count;
+        let lost = !solution.verdict.is_kept() && solution.rounds <= count;
         assert_eq!(game.forced_within(setting, count), lost, "count {count}");
     }
 }
 
-fn actual_numbers() {
+fn actual_numbers(rules: Rules, items: u64) {
     let mut seen: BTreeMap<String, usize> = BTreeMap::new();
     let mut random = Random::new(71);
     let mut total = 0;
-    for task in tasks(70, 12_000).filter(is_small) {
-        let solution = solve(Rules::TWO_WAY, &task);
+    for task in tasks(70, items).filter(is_small) {
+        let solution = solve(rules, &task);
         let class = seen.entry(class_of(&solution)).or_insert(0);
         if *class == 400 {
             continue;
@@ -86,7 +99,7 @@ fn actual_numbers() {
         *class += 1;
         total += 1;
         let setting = random_opening(&mut random, &task);
-        assert_least_count(&mut Game::new(Rules::TWO_WAY, &task, 1), &setting, &solution);
+        assert_least_count(&task, &setting, &solution);
     }
     println!("       tasks by rounds: {seen:?}");
     assert!(total >= 500, "{total} tasks");
@@ -99,11 +112,12 @@ fn two_new_numbers() {
     let mut random = Random::new(73);
     for task in tasks(72, 2000).filter(is_small).take(300) {
         let setting = random_opening(&mut random, &task);
-        let (mut one, mut two) =
-            (Game::new(Rules::TWO_WAY, &task, 1), Game::new(Rules::TWO_WAY, &task, 2));
-        for count in 0..=3 {
-            let answers = [&mut one, &mut two].map(|g| g.forced_within(&setting, count));
-            assert_eq!(answers[0], answers[1]);
+        for rules in Rules::ALL {
+            let (mut one, mut two) = (Game::new(rules, &task, 1), Game::new(rules, &task, 2));
+            for count in 0..=3 {
+                let answers = [&mut one, &mut two].map(|g| g.forced_within(&setting, count));
+                assert_eq!(answers[0], answers[1]);
+            }
         }
     }
 }
@@ -111,7 +125,8 @@ fn two_new_numbers() {
 /// Six registers, all shared, a locally fresh edge against a globally fresh
 /// one. If only the six numbers were seen, there is no seen number that
 /// neither holds, so the globally fresh edge takes all that the other takes.
-/// This shows that the brute force looks at the history.
+/// This shows that the brute force looks at the history. The locally fresh
+/// edge is the left one's, so the one-way game is like the other.
 fn short_history() {
     let state = State { set: RegisterSet(0x3f), end_mark: 0 };
     let model = |kind| {
@@ -121,19 +136,20 @@ fn short_history() {
     let pairs = (1..=6).map(|r| (r, r)).collect();
     let task = Task { left: model(Kind::LocallyFresh), right: model(Kind::GloballyFresh), pairs };
     let numbers: Vec<Number> = (0..40).collect();
-    let force = |history| {
-        Game::new(Rules::TWO_WAY, &task, 1).forced_within(&opening(&task, &numbers, history), 1)
-    };
-    assert!(!force(6));
-    assert!(force(7));
-    assert!(force(13));
-    assert_eq!(solve(Rules::TWO_WAY, &task).rounds, 1);
+    for rules in Rules::ALL {
+        let start = |history| opening(&task, &numbers, history);
+        let force = |history| Game::new(rules, &task, 1).forced_within(&start(history), 1);
+        assert!(!force(6));
+        assert!(force(7));
+        assert!(force(13));
+        assert_eq!((solve(rules, &task).verdict, solve(rules, &task).rounds), (rules.lost, 1));
+    }
 }
 
-fn own_certificates() {
+fn own_certificates(rules: Rules) {
     for task in tasks(80, 3000) {
-        let solution = solve(Rules::TWO_WAY, &task);
-        let answer = check(&write(&task), &solution.certificate);
+        let solution = solve(rules, &task);
+        let answer = check_by(rules, &write(&task), &solution.certificate);
         assert_eq!(answer.refusal, 0);
         assert_eq!((answer.verdict, answer.rounds), (solution.verdict.number(), solution.rounds));
         assert!(solution.rounds as usize <= solution.entries.len());
@@ -144,30 +160,36 @@ fn own_certificates() {
 /// A listed attack: side, edge and case as bytes.
 type AttackBytes = [u8; 3];
 
-fn wins(task: &Task, rounds_of: &BTreeMap<Position, u32>, p: &Position, a: AttackBytes) -> bool {
-    let Some(attack) = existing_attack(Rules::TWO_WAY, task, p, a) else {
-        return false;
-    };
-    let sooner = |r: &Reply| rounds_of[&r.leads_to] < rounds_of[p];
-    replies(task, p, attack).iter().all(sooner)
+/// A game of one task, with the rounds of its positions.
+struct Settled<'a> {
+    rules: Rules,
+    task: &'a Task,
+    rounds_of: BTreeMap<Position, u32>,
 }
 
-/// The first of all byte triples that is a winning attack.
-fn first_by_bytes(
-    task: &Task,
-    rounds_of: &BTreeMap<Position, u32>,
-    p: &Position,
-) -> Option<AttackBytes> {
-    let edges = (1..=2).flat_map(|side| (0..64).map(move |edge| (side, edge)));
-    let mut triples = edges.flat_map(|(side, edge)| (0..=8).map(move |case| [side, edge, case]));
-    triples.find(|&a| wins(task, rounds_of, p, a))
+impl Settled<'_> {
+    fn wins(&self, position: &Position, bytes: AttackBytes) -> bool {
+        let Some(attack) = existing_attack(self.rules, self.task, position, bytes) else {
+            return false;
+        };
+        let sooner = |r: &Reply| self.rounds_of[&r.leads_to] < self.rounds_of[position];
+        replies(self.task, position, attack).iter().all(sooner)
+    }
+
+    /// The first of all byte triples that is a winning attack.
+    fn first_by_bytes(&self, position: &Position) -> Option<AttackBytes> {
+        let edges = (1..=2).flat_map(|side| (0..64).map(move |edge| (side, edge)));
+        let mut triples =
+            edges.flat_map(|(side, edge)| (0..=8).map(move |case| [side, edge, case]));
+        triples.find(|&bytes| self.wins(position, bytes))
+    }
 }
 
-fn attack_lists() {
+fn attack_lists(rules: Rules) {
     let mut lists = 0;
     for task in tasks(84, 3000) {
-        let solution = solve(Rules::TWO_WAY, &task);
-        if solution.verdict == Verdict::Equal || solution.entries.len() > 500 {
+        let solution = solve(rules, &task);
+        if solution.verdict.is_kept() || solution.entries.len() > 500 {
             continue;
         }
         lists += 1;
@@ -177,21 +199,22 @@ fn attack_lists() {
 }
 
 fn check_attack_list(task: &Task, solution: &Solution) {
-    let rounds_of: BTreeMap<Position, u32> = solution.entries.iter().copied().collect();
+    let rules = solution.rules;
+    let settled = Settled { rules, task, rounds_of: solution.entries.iter().copied().collect() };
     let mut led_to = BTreeSet::from([Position::start(task)]);
     let mut listed = BTreeSet::new();
     for record in solution.certificate.chunks(16) {
         let position = Position::from_bytes(&record[1..9]);
         let fields = [record[9], record[10], record[11]];
         let rounds = u32::from_be_bytes([record[12], record[13], record[14], record[15]]);
-        assert_eq!(rounds, rounds_of[&position]);
+        assert_eq!((record[0], rounds), (rules.lost.kind(), settled.rounds_of[&position]));
         listed.insert(position);
         if rounds == 0 {
             assert_eq!(fields, [0, 0, 0]);
             continue;
         }
-        assert_eq!(Some(fields), first_by_bytes(task, &rounds_of, &position));
-        let attack = existing_attack(Rules::TWO_WAY, task, &position, fields);
+        assert_eq!(Some(fields), settled.first_by_bytes(&position));
+        let attack = existing_attack(rules, task, &position, fields);
         let list = replies(task, &position, attack.expect("an attack"));
         led_to.extend(list.iter().map(|r| r.leads_to));
     }
@@ -208,10 +231,10 @@ fn exchanged_sides() {
     }
 }
 
-fn lent_sizes() {
+fn lent_sizes(rules: Rules) {
     let mut random = Random::new(82);
     for task in tasks(82, 120) {
-        let solution = solve(Rules::TWO_WAY, &task);
+        let solution = solve(rules, &task);
         let (entries, needed) = (solution.entries.len(), solution.certificate.len());
         if entries > 12 {
             continue;
@@ -229,7 +252,7 @@ fn lent_sizes() {
 fn check_sizes(random: &mut Random, task: &Task, solution: &Solution, table: usize, buffer: usize) {
     let (mut table, mut buffer) = (random.bytes(table), random.bytes(buffer));
     let before = buffer.clone();
-    let answer = compare(&write(task), &mut table, &mut buffer);
+    let answer = compare_by(solution.rules, &write(task), &mut table, &mut buffer);
     let needed = solution.certificate.len();
     let refusal = match () {
         _ if table.len() < 12 * solution.entries.len() => 11,
@@ -262,7 +285,7 @@ fn mistaken_moves(mistake: usize, task: &Task, position: &Position) -> Vec<Vec<P
     }
 }
 
-fn rounds_at_start(task: &Task, entries: &[(Position, u32)]) -> u32 {
+pub fn rounds_at_start(task: &Task, entries: &[(Position, u32)]) -> u32 {
     let start = Position::start(task);
     entries.iter().find(|(p, _)| *p == start).expect("the start is reached").1
 }
@@ -359,9 +382,9 @@ fn believing(task: &Task) -> bool {
     holds(task, Position::start(task), &mut BTreeMap::new())
 }
 
-fn baseline_agrees() {
+fn baseline_agrees(rules: Rules) {
     for task in tasks(90, 6000) {
-        assert!(baseline::solve(Rules::TWO_WAY, &task) == solve(Rules::TWO_WAY, &task), "{task:?}");
+        assert!(baseline::solve(rules, &task) == solve(rules, &task), "{task:?}");
     }
     for (name, sizes) in [
         ("dearest", &[5][..]),
@@ -373,7 +396,7 @@ fn baseline_agrees() {
         ("rings", &[16, 15]),
     ] {
         let task = family(name, sizes).expect("a family");
-        assert!(baseline::solve(Rules::TWO_WAY, &task) == solve(Rules::TWO_WAY, &task), "{name}");
+        assert!(baseline::solve(rules, &task) == solve(rules, &task), "{name}");
     }
 }
 

@@ -55,7 +55,7 @@ impl Solution {
                 kept_certificate(rules, kept.map(|(p, _)| *p))
             }
         };
-        let verdict = if start_rounds.is_some() { rules.lost } else { rules.kept };
+        let verdict = rules.verdict(start_rounds.is_none());
         Solution { rules, verdict, rounds: start_rounds.unwrap_or(0), entries, certificate }
     }
 

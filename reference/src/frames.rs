@@ -1,22 +1,53 @@
 //! The binary frames between the runner and an adapter process. README.md
 //! describes them byte by byte.
 
-use crate::check::{check, CheckAnswer};
-use crate::compare::{compare, Answer};
+use crate::check::{check_by, CheckAnswer};
+use crate::compare::{compare_by, Answer};
 use crate::game::Position;
 use crate::model::{Model, Task};
+use crate::rules::Rules;
 use crate::task;
 use std::io::{self, Read, Write};
 
 pub const READ: u8 = 1;
 pub const COMPARE: u8 = 2;
 pub const CHECK: u8 = 3;
+pub const COMPARE_ONE_WAY: u8 = 4;
+pub const CHECK_ONE_WAY: u8 = 5;
+
+/// What a request and its answer are about.
+#[derive(Clone, Copy, PartialEq, Eq, Debug)]
+enum Subject {
+    Read,
+    Compare(Rules),
+    Check(Rules),
+}
+
+/// The byte that a payload begins with, and what it stands for.
+const SUBJECTS: [(u8, Subject); 5] = [
+    (READ, Subject::Read),
+    (COMPARE, Subject::Compare(Rules::TWO_WAY)),
+    (CHECK, Subject::Check(Rules::TWO_WAY)),
+    (COMPARE_ONE_WAY, Subject::Compare(Rules::ONE_WAY)),
+    (CHECK_ONE_WAY, Subject::Check(Rules::ONE_WAY)),
+];
+
+impl Subject {
+    fn byte(self) -> u8 {
+        let found = SUBJECTS.into_iter().find(|(_, subject)| *subject == self);
+        found.expect("every subject has a byte").0
+    }
+
+    fn from_byte(byte: u8) -> Option<Subject> {
+        SUBJECTS.into_iter().find(|(b, _)| *b == byte).map(|(_, subject)| subject)
+    }
+}
 
 #[derive(Clone, PartialEq, Eq, Debug)]
 pub enum Request {
     Read { task: Vec<u8> },
-    Compare { task: Vec<u8>, table: Vec<u8>, buffer: Vec<u8> },
-    Check { task: Vec<u8>, certificate: Vec<u8> },
+    Compare { rules: Rules, task: Vec<u8>, table: Vec<u8>, buffer: Vec<u8> },
+    Check { rules: Rules, task: Vec<u8>, certificate: Vec<u8> },
 }
 
 #[derive(Clone, PartialEq, Eq, Debug)]
@@ -27,11 +58,15 @@ pub enum Response {
         dump: Vec<u8>,
     },
     Compare {
+        rules: Rules,
         answer: Answer,
         table: Vec<u8>,
         buffer: Vec<u8>,
     },
-    Check(CheckAnswer),
+    Check {
+        rules: Rules,
+        answer: CheckAnswer,
+    },
 }
 
 impl Request {
@@ -43,48 +78,71 @@ impl Request {
         }
     }
 
-    pub fn payload(&self) -> Vec<u8> {
+    fn subject(&self) -> Subject {
         match self {
-            Request::Read { task } => payload(READ, &[], &[task]),
-            Request::Compare { task, table, buffer } => {
-                payload(COMPARE, &[], &[task, table, buffer])
-            }
-            Request::Check { task, certificate } => payload(CHECK, &[], &[task, certificate]),
+            Request::Read { .. } => Subject::Read,
+            Request::Compare { rules, .. } => Subject::Compare(*rules),
+            Request::Check { rules, .. } => Subject::Check(*rules),
         }
+    }
+
+    pub fn payload(&self) -> Vec<u8> {
+        let strings: &[&[u8]] = match self {
+            Request::Read { task } => &[task],
+            Request::Compare { task, table, buffer, .. } => &[task, table, buffer],
+            Request::Check { task, certificate, .. } => &[task, certificate],
+        };
+        payload(self.subject().byte(), &[], strings)
     }
 
     pub fn from_payload(bytes: &[u8]) -> Option<Request> {
         let mut fields = Fields { rest: bytes };
-        let request = match fields.byte()? {
-            READ => Request::Read { task: fields.string()? },
-            COMPARE => {
-                let (task, table) = (fields.string()?, fields.string()?);
-                Request::Compare { task, table, buffer: fields.string()? }
+        let subject = Subject::from_byte(fields.byte()?)?;
+        let task = fields.string()?;
+        let request = match subject {
+            Subject::Read => Request::Read { task },
+            Subject::Compare(rules) => {
+                let (table, buffer) = (fields.string()?, fields.string()?);
+                Request::Compare { rules, task, table, buffer }
             }
-            CHECK => Request::Check { task: fields.string()?, certificate: fields.string()? },
-            _ => return None,
+            Subject::Check(rules) => Request::Check { rules, task, certificate: fields.string()? },
         };
         fields.rest.is_empty().then_some(request)
     }
 }
 
 impl Response {
+    fn subject(&self) -> Subject {
+        match self {
+            Response::Read { .. } => Subject::Read,
+            Response::Compare { rules, .. } => Subject::Compare(*rules),
+            Response::Check { rules, .. } => Subject::Check(*rules),
+        }
+    }
+
+    /// The byte that the payload begins with.
+    pub fn first_byte(&self) -> u8 {
+        self.subject().byte()
+    }
+
     pub fn payload(&self) -> Vec<u8> {
         match self {
-            Response::Read { refusal, dump } => payload(READ, &[*refusal], &[dump]),
-            Response::Compare { answer: a, table, buffer } => {
+            Response::Read { refusal, dump } => payload(self.first_byte(), &[*refusal], &[dump]),
+            Response::Compare { answer: a, table, buffer, .. } => {
                 let numbers = [a.refusal, a.verdict, a.positions, a.rounds, a.certificate_length];
-                payload(COMPARE, &numbers, &[table, buffer])
+                payload(self.first_byte(), &numbers, &[table, buffer])
             }
-            Response::Check(a) => payload(CHECK, &[a.refusal, a.verdict, a.rounds], &[]),
+            Response::Check { answer: a, .. } => {
+                payload(self.first_byte(), &[a.refusal, a.verdict, a.rounds], &[])
+            }
         }
     }
 
     pub fn from_payload(bytes: &[u8]) -> Option<Response> {
         let mut fields = Fields { rest: bytes };
-        let response = match fields.byte()? {
-            READ => Response::Read { refusal: fields.number()?, dump: fields.string()? },
-            COMPARE => {
+        let response = match Subject::from_byte(fields.byte()?)? {
+            Subject::Read => Response::Read { refusal: fields.number()?, dump: fields.string()? },
+            Subject::Compare(rules) => {
                 let answer = Answer {
                     refusal: fields.number()?,
                     verdict: fields.number()?,
@@ -93,20 +151,20 @@ impl Response {
                     certificate_length: fields.number()?,
                 };
                 let (table, buffer) = (fields.string()?, fields.string()?);
-                Response::Compare { answer, table, buffer }
+                Response::Compare { rules, answer, table, buffer }
             }
-            CHECK => {
+            Subject::Check(rules) => {
                 let (refusal, verdict) = (fields.number()?, fields.number()?);
-                Response::Check(CheckAnswer { refusal, verdict, rounds: fields.number()? })
+                let answer = CheckAnswer { refusal, verdict, rounds: fields.number()? };
+                Response::Check { rules, answer }
             }
-            _ => return None,
         };
         fields.rest.is_empty().then_some(response)
     }
 }
 
-fn payload(operation: u8, numbers: &[u32], strings: &[&[u8]]) -> Vec<u8> {
-    let mut bytes = vec![operation];
+fn payload(first_byte: u8, numbers: &[u32], strings: &[&[u8]]) -> Vec<u8> {
+    let mut bytes = vec![first_byte];
     for number in numbers {
         bytes.extend_from_slice(&number.to_le_bytes());
     }
@@ -198,11 +256,13 @@ pub fn reference_response(request: &Request) -> Response {
             Ok(task) => Response::Read { refusal: 0, dump: dump(&task) },
             Err(refusal) => Response::Read { refusal: refusal.0, dump: Vec::new() },
         },
-        Request::Compare { task, table, buffer } => {
+        Request::Compare { rules, task, table, buffer } => {
             let (mut table, mut buffer) = (table.clone(), buffer.clone());
-            let answer = compare(task, &mut table, &mut buffer);
-            Response::Compare { answer, table, buffer }
+            let answer = compare_by(*rules, task, &mut table, &mut buffer);
+            Response::Compare { rules: *rules, answer, table, buffer }
         }
-        Request::Check { task, certificate } => Response::Check(check(task, certificate)),
+        Request::Check { rules, task, certificate } => {
+            Response::Check { rules: *rules, answer: check_by(*rules, task, certificate) }
+        }
     }
 }

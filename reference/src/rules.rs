@@ -39,6 +39,24 @@ impl Rules {
 
     pub const ALL: [Rules; 2] = [Rules::TWO_WAY, Rules::ONE_WAY];
 
+    /// The other one of the two games.
+    pub fn other(&self) -> Rules {
+        if *self == Rules::TWO_WAY {
+            Rules::ONE_WAY
+        } else {
+            Rules::TWO_WAY
+        }
+    }
+
+    /// What a program calls doing something in this game: `check` where both
+    /// sides attack, and otherwise `check-one-way`.
+    pub fn word_for(&self, what: &str) -> String {
+        match *self == Rules::TWO_WAY {
+            true => what.to_string(),
+            false => format!("{what}-{}", self.name),
+        }
+    }
+
     pub fn attacks(&self, side: Side) -> bool {
         self.attackers.contains(&side)
     }
@@ -47,6 +65,14 @@ impl Rules {
     pub fn loses_at_once(&self, task: &Task, left: u8, right: u8) -> bool {
         let marks = (task.left.end_mark(left), task.right.end_mark(right));
         self.losing_marks.contains(&marks)
+    }
+
+    pub fn verdict(&self, kept: bool) -> Verdict {
+        if kept {
+            self.kept
+        } else {
+            self.lost
+        }
     }
 
     /// The verdict that a certificate's kind stands for in this game.

@@ -2,10 +2,10 @@
 //! the reference, compares, counts.
 
 use crate::baseline;
-use crate::check::check;
+use crate::check::check_by;
 use crate::compare::{solve, Solution, ENTRY_LENGTH};
 use crate::frames::{reference_response, Request, Response};
-use crate::generate::proposals::{proposal, random_kind};
+use crate::generate::proposals::{proposal, random_kind, ProposalKind};
 use crate::generate::sweeps::Sweep;
 use crate::generate::{item, item_of_kind, Item, ItemKind};
 use crate::model::{Task, Verdict};
@@ -14,35 +14,47 @@ use crate::random::Random;
 use crate::rules::Rules;
 use crate::tally::Tally;
 use crate::task;
-use crate::text::{compare_output, verdict_name, INPUT_LIMIT};
+use crate::text::{compare_output_by, INPUT_LIMIT};
 use std::path::PathBuf;
 use std::time::Duration;
 
 #[derive(Clone, Copy, PartialEq, Eq, Debug)]
 pub enum Operation {
     Read,
-    Compare,
-    Check,
-    Program,
+    Compare(Rules),
+    Check(Rules),
+    Program(Rules),
 }
 
 impl Operation {
-    pub const ALL: [Operation; 4] =
-        [Operation::Read, Operation::Compare, Operation::Check, Operation::Program];
+    pub const ALL: [Operation; 7] = [
+        Operation::Read,
+        Operation::Compare(Rules::TWO_WAY),
+        Operation::Check(Rules::TWO_WAY),
+        Operation::Program(Rules::TWO_WAY),
+        Operation::Compare(Rules::ONE_WAY),
+        Operation::Check(Rules::ONE_WAY),
+        Operation::Program(Rules::ONE_WAY),
+    ];
 
-    pub fn name(self) -> &'static str {
-        ["read", "compare", "check", "program"][self as usize]
+    pub fn name(self) -> String {
+        match self {
+            Operation::Read => "read".to_string(),
+            Operation::Compare(rules) => rules.word_for("compare"),
+            Operation::Check(rules) => rules.word_for("check"),
+            Operation::Program(rules) => rules.word_for("program"),
+        }
     }
 
     /// What `--fault` can alter in an answer of this operation.
     pub fn fault_fields(self) -> &'static [&'static str] {
         match self {
             Operation::Read => &["refusal", "dump"],
-            Operation::Compare => {
+            Operation::Compare(_) => {
                 &["refusal", "verdict", "positions", "rounds", "length", "table", "buffer"]
             }
-            Operation::Check => &["refusal", "verdict", "rounds"],
-            Operation::Program => &["text"],
+            Operation::Check(_) => &["refusal", "verdict", "rounds"],
+            Operation::Program(_) => &["text"],
         }
     }
 }
@@ -61,6 +73,8 @@ pub struct Options {
     /// All certificates of this sort that come of the given task's own one;
     /// their number is the run's count.
     pub sweep: Option<Sweep>,
+    /// Proposed certificates of this kind only.
+    pub proposal: Option<ProposalKind>,
     pub command: Vec<String>,
     /// The field to alter in the first answer that has it, from this item
     /// on.
@@ -121,7 +135,7 @@ pub fn run(mut options: Options) -> Result<Outcome, String> {
     }
     let watch = Watch::start(options.timeout);
     let partner = match options.operation {
-        Operation::Program => Partner::Program(watch, options.command.clone()),
+        Operation::Program(_) => Partner::Program(watch, options.command.clone()),
         _ => Partner::Adapter(Adapter::start(&watch, &options.command)?),
     };
     let mut runner =
@@ -143,11 +157,12 @@ pub fn run(mut options: Options) -> Result<Outcome, String> {
 
 /// The certificate of the given task.
 fn own_certificate(options: &Options) -> Result<Vec<u8>, String> {
-    let task = options.task.as_ref().filter(|_| options.operation == Operation::Check);
-    let bytes = task.ok_or("--sweep is for check with --task")?;
+    let (Operation::Check(rules), Some(bytes)) = (options.operation, &options.task) else {
+        return Err("--sweep is for check with --task".to_string());
+    };
     let task =
         task::read(bytes).map_err(|r| format!("--sweep: the task is refused with {}", r.0))?;
-    Ok(baseline::solve(Rules::TWO_WAY, &task).certificate)
+    Ok(baseline::solve(rules, &task).certificate)
 }
 
 impl Runner {
@@ -170,40 +185,49 @@ impl Runner {
         if given != expected {
             self.report(index, &question, &expected, &given);
         }
-        !matches!(given, Reply::Failure(_)) || operation == Operation::Program
+        !matches!(given, Reply::Failure(_)) || matches!(operation, Operation::Program(_))
     }
 
     /// A given task may be too large for the plain comparer.
-    fn solve(&self, task: &Task) -> Solution {
+    fn solve(&self, rules: Rules, task: &Task) -> Solution {
         match self.options.task {
-            Some(_) => baseline::solve(Rules::TWO_WAY, task),
-            None => solve(Rules::TWO_WAY, task),
+            Some(_) => baseline::solve(rules, task),
+            None => solve(rules, task),
         }
     }
 
     fn make_case(&mut self, index: u64, random: &mut Random, item: Item) -> (Question, Reply) {
         self.tally.add(format!("item:{}", item.kind.name()));
         self.tally.add_task_size(&item.bytes);
-        let question = match self.options.operation {
-            Operation::Read => Question::Frame(Request::Read { task: item.bytes }),
-            Operation::Compare => return self.compare_case(random, item.bytes),
-            Operation::Check => return self.check_case(index, random, item.bytes),
-            Operation::Program => return self.program_case(random, item.bytes),
-        };
-        let Question::Frame(request) = &question else { unreachable!() };
-        let response = reference_response(request);
+        match self.options.operation {
+            Operation::Read => self.read_case(item.bytes),
+            Operation::Compare(rules) => self.compare_case(rules, random, item.bytes),
+            Operation::Check(rules) => self.check_case(rules, index, random, item.bytes),
+            Operation::Program(rules) => self.program_case(rules, random, item.bytes),
+        }
+    }
+
+    fn read_case(&mut self, task: Vec<u8>) -> (Question, Reply) {
+        let request = Request::Read { task };
+        let response = reference_response(&request);
         if let Response::Read { refusal, .. } = &response {
             self.tally.add(format!("refusal:{refusal}"));
         }
-        (question, Reply::Frame(response))
+        (Question::Frame(request), Reply::Frame(response))
     }
 
     /// Sizes of table and buffer are chosen around what is needed.
-    fn compare_case(&mut self, random: &mut Random, task: Vec<u8>) -> (Question, Reply) {
+    fn compare_case(
+        &mut self,
+        rules: Rules,
+        random: &mut Random,
+        task: Vec<u8>,
+    ) -> (Question, Reply) {
         let solution = task::read(&task).ok().map(|parsed| {
-            let solution = self.solve(&parsed);
+            let solution = self.solve(rules, &parsed);
             self.tally.add_outcome(&parsed, &solution);
             self.tally.add_features(&parsed, &solution);
+            self.count_beside(&parsed, &solution);
             solution
         });
         let (entries, length) = needed_sizes(random, &solution);
@@ -212,59 +236,86 @@ impl Runner {
         let (table, buffer) = (random.bytes(table_size), random.bytes(buffer_size));
         self.tally.add(format!("table:{table_word}"));
         self.tally.add(format!("buffer:{buffer_word}"));
-        let request = Request::Compare { task, table: table.clone(), buffer: buffer.clone() };
+        let request =
+            Request::Compare { rules, task, table: table.clone(), buffer: buffer.clone() };
         let response = match &solution {
             None => reference_response(&request),
             Some(solution) => {
                 let (mut table, mut buffer) = (table, buffer);
                 let answer = solution.deliver(&mut table, &mut buffer);
-                Response::Compare { answer, table, buffer }
+                Response::Compare { rules, answer, table, buffer }
             }
         };
         if let Response::Compare { answer, .. } = &response {
             self.tally.add(format!("refusal:{}", answer.refusal));
-            self.tally.add(format!("answer:{}", verdict_name(answer.verdict)));
+            self.tally.add(format!("answer:{}", verdict_key(answer.verdict)));
         }
         (Question::Frame(request), Reply::Frame(response))
     }
 
-    fn check_case(&mut self, index: u64, random: &mut Random, task: Vec<u8>) -> (Question, Reply) {
+    /// Not for a given task, which may be large.
+    fn count_beside(&mut self, task: &Task, solution: &Solution) {
+        if solution.rules != Rules::TWO_WAY && self.options.task.is_none() {
+            self.tally.add_beside(&solve(Rules::TWO_WAY, task), solution);
+        }
+    }
+
+    fn check_case(
+        &mut self,
+        rules: Rules,
+        index: u64,
+        random: &mut Random,
+        task: Vec<u8>,
+    ) -> (Question, Reply) {
         let certificate = match task::read(&task) {
             Err(_) => {
                 let length = random.below(40);
                 random.bytes(length)
             }
-            Ok(parsed) => self.proposed(index, random, &parsed),
+            Ok(parsed) => {
+                let solution = self.solve(rules, &parsed);
+                self.proposed(index, random, &parsed, &solution)
+            }
         };
-        let answer = check(&task, &certificate);
+        let answer = check_by(rules, &task, &certificate);
         self.tally.add(format!("refusal:{}", answer.refusal));
         if answer.refusal == 0 {
-            self.tally.add(format!("verdict:{}", verdict_name(answer.verdict)));
+            self.tally.add(format!("verdict:{}", verdict_key(answer.verdict)));
         }
-        if answer.verdict == Verdict::Differ.number() {
+        if answer.verdict == rules.lost.number() {
             self.tally.add_rounds(answer.rounds);
         }
-        let request = Request::Check { task, certificate };
-        (Question::Frame(request), Reply::Frame(Response::Check(answer)))
+        let request = Request::Check { rules, task, certificate };
+        (Question::Frame(request), Reply::Frame(Response::Check { rules, answer }))
     }
 
-    fn proposed(&mut self, index: u64, random: &mut Random, task: &Task) -> Vec<u8> {
-        let solution = self.solve(task);
+    fn proposed(
+        &mut self,
+        index: u64,
+        random: &mut Random,
+        task: &Task,
+        solution: &Solution,
+    ) -> Vec<u8> {
         if let Some(sweep) = self.options.sweep {
             return sweep.proposal(&solution.certificate, (index - self.options.first) as usize);
         }
-        let kind = random_kind(random);
+        let kind = self.options.proposal.unwrap_or_else(|| random_kind(random, solution.rules));
         self.tally.add(format!("proposal:{}", kind.name()));
-        proposal(random, task, &solution, kind)
+        proposal(random, task, solution, kind)
     }
 
-    fn program_case(&mut self, random: &mut Random, mut task: Vec<u8>) -> (Question, Reply) {
+    fn program_case(
+        &mut self,
+        rules: Rules,
+        random: &mut Random,
+        mut task: Vec<u8>,
+    ) -> (Question, Reply) {
         if random.chance(3) {
             let length = INPUT_LIMIT + random.below(3) - 1 + random.below(2) * random.below(70_000);
             let kind = *random.pick(&[0, 1, 15]);
             task.resize(length, kind);
         }
-        let text = compare_output(&task);
+        let text = compare_output_by(rules, &task);
         let first_line = text.lines().next().unwrap_or("");
         let mut words = first_line.split(' ');
         match words.next() {
@@ -273,7 +324,7 @@ impl Runner {
             _ => {
                 let parsed = task::read(&task).expect("not refused");
                 self.tally.add("refusal:0");
-                self.tally.add_outcome(&parsed, &solve(Rules::TWO_WAY, &parsed));
+                self.tally.add_outcome(&parsed, &solve(rules, &parsed));
             }
         }
         (Question::Text(task), Reply::Text(text.into_bytes()))
@@ -296,8 +347,9 @@ impl Runner {
         self.mismatches += 1;
         let Options { operation, seed, .. } = self.options;
         println!("MISMATCH in {} of seed {seed}, item {index}", operation.name());
-        println!("  reference: {}", describe(expected, given));
-        println!("  partner:   {}", describe(given, expected));
+        let bytes = first_bytes(expected, given);
+        println!("  reference: {}{}", bytes[0], describe(expected, given));
+        println!("  partner:   {}{}", bytes[1], describe(given, expected));
         let stem = format!("mismatch-{}-{seed}-{index}", operation.name());
         match question {
             Question::Frame(request) => {
@@ -326,6 +378,10 @@ impl Runner {
         let short = required.filter(|(key, least)| self.tally.get(key) < *least);
         short.map(|(key, least)| format!("{key}: {} of {least}", self.tally.get(key))).collect()
     }
+}
+
+fn verdict_key(number: u32) -> String {
+    Verdict::from_number(number).map_or("none".to_string(), Verdict::key)
 }
 
 /// Entries and certificate bytes that the task needs; made up where the
@@ -360,12 +416,12 @@ fn alter(random: &mut Random, reply: &mut Reply, field: &str) -> bool {
             "dump" => flip(random, dump),
             _ => add_one(refusal),
         },
-        Reply::Frame(Response::Check(answer)) => match field {
+        Reply::Frame(Response::Check { answer, .. }) => match field {
             "verdict" => add_one(&mut answer.verdict),
             "rounds" => add_one(&mut answer.rounds),
             _ => add_one(&mut answer.refusal),
         },
-        Reply::Frame(Response::Compare { answer, table, buffer }) => match field {
+        Reply::Frame(Response::Compare { answer, table, buffer, .. }) => match field {
             "verdict" => add_one(&mut answer.verdict),
             "positions" => add_one(&mut answer.positions),
             "rounds" => add_one(&mut answer.rounds),
@@ -391,6 +447,17 @@ fn flip(random: &mut Random, bytes: &mut [u8]) -> bool {
     true
 }
 
+/// The bytes that two answers begin with, if they differ in that: an answer
+/// to another question.
+fn first_bytes(one: &Reply, two: &Reply) -> [String; 2] {
+    match (one, two) {
+        (Reply::Frame(one), Reply::Frame(two)) if one.first_byte() != two.first_byte() => {
+            [one, two].map(|answer| format!("byte {}, ", answer.first_byte()))
+        }
+        _ => [String::new(), String::new()],
+    }
+}
+
 /// An answer in words; long byte strings from where they differ.
 fn describe(reply: &Reply, other: &Reply) -> String {
     match (reply, other) {
@@ -399,8 +466,8 @@ fn describe(reply: &Reply, other: &Reply) -> String {
         (Reply::Frame(Response::Read { refusal, dump }), _) => {
             format!("refusal {refusal}, dump {}", hex(dump, 0))
         }
-        (Reply::Frame(Response::Check(answer)), _) => format!("{answer:?}"),
-        (Reply::Frame(Response::Compare { answer, table, buffer }), other) => {
+        (Reply::Frame(Response::Check { answer, .. }), _) => format!("{answer:?}"),
+        (Reply::Frame(Response::Compare { answer, table, buffer, .. }), other) => {
             let (other_table, other_buffer) = match other {
                 Reply::Frame(Response::Compare { table, buffer, .. }) => (&table[..], &buffer[..]),
                 _ => (&[][..], &[][..]),

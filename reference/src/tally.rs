@@ -40,6 +40,11 @@ impl Tally {
         }
     }
 
+    /// How another game came out beside the two-way one.
+    pub fn add_beside(&mut self, two_way: &Solution, other: &Solution) {
+        self.add(format!("beside:{}", beside(two_way, other)));
+    }
+
     pub fn add_task_size(&mut self, task: &[u8]) {
         self.add(format!("task-bytes:{}", class(task.len() as u32, &SIZE_CLASSES)));
     }
@@ -67,6 +72,17 @@ impl Tally {
             keys.extend(meetings(task, position));
         }
         keys.into_iter().for_each(|key| self.add(key));
+    }
+}
+
+/// The two-way verdict, and where it is DIFFER, what the other game makes of
+/// it.
+fn beside(two_way: &Solution, other: &Solution) -> &'static str {
+    match (two_way.verdict.is_kept(), other.verdict.is_kept()) {
+        (true, _) => "EQUAL",
+        (false, true) => "DIFFER-but-kept",
+        (false, false) if two_way.rounds < other.rounds => "DIFFER-and-lost-later",
+        (false, false) => "DIFFER-and-lost-as-soon",
     }
 }
 

@@ -37,10 +37,6 @@ pub fn answer_text(answer: &Answer, certificate: &[u8]) -> String {
     text
 }
 
-pub fn verdict_name(number: u32) -> &'static str {
-    Verdict::from_number(number).map_or("none", Verdict::name)
-}
-
 fn record_line(verdict: Verdict, record: &[u8]) -> String {
     let (word, small_fields) =
         if verdict.is_kept() { ("KEPT", &record[1..]) } else { ("LOST", &record[1..12]) };

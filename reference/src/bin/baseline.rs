@@ -7,8 +7,8 @@ use std::fs::read_to_string;
 use std::time::Instant;
 
 fn main() {
-    let file = std::env::args().nth(1).unwrap_or_else(|| {
-        eprintln!("usage: reference-baseline TASKFILE");
+    let (rules, file) = rules_and_file().unwrap_or_else(|| {
+        eprintln!("usage: reference-baseline [--one-way] TASKFILE");
         std::process::exit(2)
     });
     let bytes = std::fs::read(&file).unwrap_or_else(|error| {
@@ -19,7 +19,7 @@ fn main() {
     match task::read(&bytes) {
         Err(refusal) => println!("REFUSED {}", refusal.0),
         Ok(task) => {
-            let solution = solve(Rules::TWO_WAY, &task);
+            let solution = solve(rules, &task);
             println!("verdict {}", solution.verdict.name());
             println!("positions {}", solution.entries.len());
             println!("rounds {}", solution.rounds);
@@ -29,6 +29,15 @@ fn main() {
     println!("wall_seconds {:.3}", begin.elapsed().as_secs_f64());
     println!("cpu_seconds {:.3}", cpu_seconds().unwrap_or(f64::NAN));
     println!("peak_kilobytes {}", peak_kilobytes().unwrap_or(0));
+}
+
+fn rules_and_file() -> Option<(Rules, String)> {
+    let mut arguments = std::env::args().skip(1);
+    let first = arguments.next()?;
+    match first.as_str() {
+        "--one-way" => Some((Rules::ONE_WAY, arguments.next()?)),
+        _ => Some((Rules::TWO_WAY, first)),
+    }
 }
 
 /// Time on the processor, from the scheduler's count in nanoseconds; where

@@ -3,6 +3,7 @@
 use reference::generate::families::{family, FAMILIES};
 use reference::generate::quota::{measure, measure_proposals, quota_table};
 use reference::generate::{item, item_of_kind, ItemKind};
+use reference::rules::Rules;
 use reference::task;
 use std::io::Write;
 
@@ -13,6 +14,8 @@ usage: reference-generate item SEED INDEX [KIND]    one item's bytes to standard
        reference-generate families                  names and sizes of the families
        reference-generate quota SEED COUNT          counts and the quota table
        reference-generate proposals SEED COUNT      what comes of proposed certificates
+       reference-generate quota-one-way SEED COUNT      the same two in the one-way game
+       reference-generate proposals-one-way SEED COUNT
 KIND is small, near, chain, cover, guess, overwrite, reach or damaged.";
 
 fn main() {
@@ -51,13 +54,23 @@ fn run(words: &[&str]) -> Result<(), String> {
             }
             Ok(())
         }
-        ["quota", seed, count] => quota(number(seed)?, number(count)?),
-        ["proposals", seed, count] => {
-            print!("{}", measure_proposals(number(seed)?, number(count)?).table());
-            Ok(())
-        }
+        [word, seed, count] => measured(word, seed, count),
         _ => Err(USAGE.to_string()),
     }
+}
+
+/// The counts of one game.
+fn measured(word: &str, seed: &str, count: &str) -> Result<(), String> {
+    for rules in Rules::ALL {
+        if word == rules.word_for("quota") {
+            return quota(rules, number(seed)?, number(count)?);
+        }
+        if word == rules.word_for("proposals") {
+            print!("{}", measure_proposals(rules, number(seed)?, number(count)?).table());
+            return Ok(());
+        }
+    }
+    Err(USAGE.to_string())
 }
 
 fn items(seed: u64, count: u64, directory: &str) -> Result<(), String> {
@@ -70,10 +83,10 @@ fn items(seed: u64, count: u64, directory: &str) -> Result<(), String> {
     Ok(())
 }
 
-fn quota(seed: u64, count: u64) -> Result<(), String> {
-    let tally = measure(seed, count);
+fn quota(rules: Rules, seed: u64, count: u64) -> Result<(), String> {
+    let tally = measure(rules, seed, count);
     print!("{}\n", tally.table());
-    let (table, met) = quota_table(&tally);
+    let (table, met) = quota_table(rules, &tally);
     print!("{table}");
     if met {
         Ok(())

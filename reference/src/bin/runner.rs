@@ -1,5 +1,6 @@
 //! The differential runner as a program.
 
+use reference::generate::proposals::ProposalKind;
 use reference::generate::sweeps::Sweep;
 use reference::generate::ItemKind;
 use reference::runner::{run, Operation, Options};
@@ -9,11 +10,13 @@ const USAGE: &str = "\
 usage: reference-runner OPERATION --seed S --count N [options] -- COMMAND [ARGUMENT...]
 OPERATION  read, compare or check: COMMAND is an adapter, started once
            program: COMMAND is a program like `compare`, started for every task
+           compare-one-way, check-one-way, program-one-way: by the one-way game
 options    --first N            number of the first item, default 0
            --kind KIND          items of one kind only
            --task FILE          this task in every case
            --sweep SORT         check: every cut (cuts) or every other value of every byte
                                 (bytes) of the given task's own certificate
+           --proposal KIND      check: certificates of one kind only, as printed
            --require KEY:COUNT  at least COUNT cases under KEY, as printed; repeatable
            --fault FIELD[:N]    alter FIELD in the first answer that has it, from item N on
            --save DIR           where mismatches are saved, default the current directory
@@ -65,7 +68,7 @@ fn options(arguments: &[String]) -> Result<Options, String> {
     let end = arguments.iter().position(|a| a == "--").ok_or(USAGE)?;
     let (own, command) = (&arguments[..end], &arguments[end + 1..]);
     let (name, flags) = own.split_first().ok_or(USAGE)?;
-    let operation = Operation::ALL.into_iter().find(|o| o.name() == name).ok_or(USAGE)?;
+    let operation = Operation::ALL.into_iter().find(|o| o.name() == *name).ok_or(USAGE)?;
     let mut options = Options {
         operation,
         seed: 1,
@@ -74,6 +77,7 @@ fn options(arguments: &[String]) -> Result<Options, String> {
         kind: None,
         task: None,
         sweep: None,
+        proposal: None,
         command: command.to_vec(),
         fault: None,
         required: Vec::new(),
@@ -100,6 +104,9 @@ fn set(options: &mut Options, name: &str, value: &str) -> Result<(), String> {
             options.task = Some(bytes);
         }
         "--sweep" => options.sweep = Some(Sweep::from_name(value).ok_or(USAGE)?),
+        "--proposal" => {
+            options.proposal = Some(ProposalKind::from_name(value).ok_or(USAGE)?);
+        }
         "--require" => options.required.push(key_and_count(value)?),
         "--fault" => options.fault = Some(fault(options.operation, value)?),
         "--save" => options.save = value.into(),

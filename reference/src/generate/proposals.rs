@@ -2,7 +2,7 @@
 //! comparer would not write.
 
 use crate::certificate::*;
-use crate::compare::{settle_from, Solution, NEVER_LOST};
+use crate::compare::{settle_from, solve, Solution, NEVER_LOST};
 use crate::game::{attacks, replies, Attack, Position};
 use crate::model::*;
 use crate::random::Random;
@@ -31,10 +31,14 @@ pub enum ProposalKind {
     IllegalPosition,
     Empty,
     Noise,
+    /// A list with kinds of the other game.
+    OtherKinds,
+    /// The other game's own list, under this game's kinds.
+    OtherRules,
 }
 
 impl ProposalKind {
-    pub const ALL: [ProposalKind; 15] = [
+    pub const ALL: [ProposalKind; 17] = [
         ProposalKind::Right,
         ProposalKind::ByteAltered,
         ProposalKind::Cut,
@@ -50,6 +54,8 @@ impl ProposalKind {
         ProposalKind::IllegalPosition,
         ProposalKind::Empty,
         ProposalKind::Noise,
+        ProposalKind::OtherKinds,
+        ProposalKind::OtherRules,
     ];
 
     pub fn name(self) -> &'static str {
@@ -69,7 +75,23 @@ impl ProposalKind {
             "illegal-position",
             "empty",
             "noise",
+            "other-kinds",
+            "other-rules",
         ][self as usize]
+    }
+
+    pub fn from_name(name: &str) -> Option<ProposalKind> {
+        ProposalKind::ALL.into_iter().find(|k| k.name() == name)
+    }
+
+    /// The kinds that are drawn at random in a game. Those that come of the
+    /// other game are drawn in the one-way game alone, so that in the two-way
+    /// game a seed has the cases that it had before there was another.
+    pub fn drawn(rules: Rules) -> &'static [ProposalKind] {
+        match rules == Rules::TWO_WAY {
+            true => &ProposalKind::ALL[..15],
+            false => &ProposalKind::ALL,
+        }
     }
 
     /// Whether the checker has to accept what is made under this name.
@@ -91,8 +113,8 @@ fn cut_records(solution: &Solution) -> Vec<Vec<u8>> {
     solution.certificate.chunks(length).map(|r| r.to_vec()).collect()
 }
 
-pub fn random_kind(random: &mut Random) -> ProposalKind {
-    *random.pick(&ProposalKind::ALL)
+pub fn random_kind(random: &mut Random, rules: Rules) -> ProposalKind {
+    *random.pick(ProposalKind::drawn(rules))
 }
 
 /// A proposed certificate of this kind for a task and its solution. Where a
@@ -123,6 +145,10 @@ pub fn proposal(
         ProposalKind::IllegalPosition => illegal_position(random, solution),
         ProposalKind::Empty => Vec::new(),
         ProposalKind::Noise => noise(random, solution.rules),
+        ProposalKind::OtherKinds => other_kinds(random, task, solution),
+        ProposalKind::OtherRules => {
+            under_kinds(solution.rules, &solve(solution.rules.other(), task)).concat()
+        }
     }
 }
 
@@ -370,4 +396,29 @@ fn noise(random: &mut Random, rules: Rules) -> Vec<u8> {
         bytes[0] = random.pick(&[rules.kept, rules.lost]).kind();
     }
     bytes
+}
+
+/// The records of a solution's certificate, under the kinds of a game.
+fn under_kinds(rules: Rules, solution: &Solution) -> Vec<Vec<u8>> {
+    let kind = rules.verdict(solution.verdict.is_kept()).kind();
+    let mut list = cut_records(solution);
+    list.iter_mut().for_each(|record| record[0] = kind);
+    list
+}
+
+/// The other game's own certificate; or the right one with the other game's
+/// kind in all records, or in one.
+fn other_kinds(random: &mut Random, task: &Task, solution: &Solution) -> Vec<u8> {
+    let other = solution.rules.other();
+    let altered = under_kinds(other, solution);
+    match random.below(3) {
+        0 => solve(other, task).certificate,
+        1 => altered.concat(),
+        _ => {
+            let mut list = cut_records(solution);
+            let place = random.below(list.len());
+            list[place] = altered[place].clone();
+            list.concat()
+        }
+    }
 }

@@ -27,10 +27,6 @@ pub const TESTS: &[Test] = &[
 const TWO_WAY: Rules = Rules::TWO_WAY;
 const ONE_WAY: Rules = Rules::ONE_WAY;
 
-fn other_game(rules: Rules) -> Rules {
-    Rules::ALL.into_iter().find(|r| *r != rules).expect("two games")
-}
-
 /// Both games reach the same positions, since any two edges that can make a
 /// round do so by an attack of the left side too; and where both sides
 /// attack, no position is lost later.
@@ -92,19 +88,18 @@ fn parted_verdicts() {
     let mut seen = Tally::default();
     let mut random = Random::new(98);
     for task in tasks(97, 12_000).filter(is_small) {
-        let solutions = Rules::ALL.map(|rules| solve(rules, &task));
-        let [two, one] = &solutions;
-        let outcome = match (two.verdict.is_kept(), one.verdict.is_kept()) {
-            (false, true) => "FOLLOWS",
-            (false, false) if two.rounds < one.rounds => "later",
-            _ => continue,
-        };
-        seen.add(outcome);
+        let (two, one) = (solve(TWO_WAY, &task), solve(ONE_WAY, &task));
+        if (two.verdict.is_kept(), two.rounds) == (one.verdict.is_kept(), one.rounds) {
+            continue;
+        }
+        seen.add_beside(&two, &one);
         let setting = random_opening(&mut random, &task);
-        solutions.iter().for_each(|solution| assert_least_count(&task, &setting, solution));
+        assert_least_count(&task, &setting, &two);
+        assert_least_count(&task, &setting, &one);
     }
     print!("{}", seen.table());
-    assert!(seen.get("FOLLOWS") >= 100 && seen.get("later") >= 30);
+    assert!(seen.get("beside:DIFFER-but-kept") >= 100);
+    assert!(seen.get("beside:DIFFER-and-lost-later") >= 30);
 }
 
 fn refused(refusal: u32) -> CheckAnswer {
@@ -114,9 +109,8 @@ fn refused(refusal: u32) -> CheckAnswer {
 fn other_certificates() {
     for task in tasks(99, 3000) {
         for rules in Rules::ALL {
-            let other = other_game(rules);
             let certificate = solve(rules, &task).certificate;
-            assert_eq!(check_by(other, &write(&task), &certificate), refused(13));
+            assert_eq!(check_by(rules.other(), &write(&task), &certificate), refused(13));
         }
     }
 }

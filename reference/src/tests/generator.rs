@@ -17,19 +17,26 @@ use reference::task::read;
 use std::collections::BTreeSet;
 
 pub const TESTS: &[Test] = &[
-    ("generator: quotas in 20,000 items", quotas_are_met),
+    ("generator: quotas in 20,000 items", || quotas_are_met(Rules::TWO_WAY)),
+    ("generator: quotas in 20,000 items, one-way", || quotas_are_met(Rules::ONE_WAY)),
     ("generator: a poor mix misses the quotas", quotas_can_be_missed),
     ("generator: the same seed gives the same items", repeatable),
     ("generator: undamaged items are valid", valid_items),
-    ("generator: proposed certificates", proposed_certificates),
-    ("generator: end marks that differ are listed by attacks", marked_later),
+    ("generator: proposed certificates", || {
+        proposed_certificates(Rules::TWO_WAY);
+    }),
+    ("generator: proposed certificates, one-way", one_way_certificates),
+    ("generator: end marks that differ are listed by attacks", || marked_later(Rules::TWO_WAY)),
+    ("generator: end marks that lose are listed by attacks, one-way", || {
+        marked_later(Rules::ONE_WAY)
+    }),
     ("generator: sweeps have every proposal once", sweeps),
     ("generator: families are valid", valid_families),
     ("generator: families of a stated size", stated_sizes),
 ];
 
-fn quotas_are_met() {
-    let (table, met) = quota_table(&measure(1, 20_000));
+fn quotas_are_met(rules: Rules) {
+    let (table, met) = quota_table(rules, &measure(rules, 1, 20_000));
     print!("{table}");
     assert!(met);
 }
@@ -37,15 +44,17 @@ fn quotas_are_met() {
 /// Small items alone have no refusals and no long attacks; and nothing at
 /// all misses everything.
 fn quotas_can_be_missed() {
-    let small = (0..4000).map(|index| item_of_kind(1, index, ItemKind::Small));
-    let (table, met) = quota_table(&measure_items(small));
-    assert!(!met);
-    let missed = |key: &str| table.lines().any(|l| l.contains("MISSED") && l.ends_with(key));
-    assert!(missed("refusal:7") && missed("rounds:15+") && missed("case:6"));
-    assert!(!missed("case:0"));
-    let (table, met) = quota_table(&Tally::default());
-    assert!(!met);
-    assert_eq!(table.matches("MISSED").count(), quotas().len());
+    for rules in Rules::ALL {
+        let small = (0..4000).map(|index| item_of_kind(1, index, ItemKind::Small));
+        let (table, met) = quota_table(rules, &measure_items(rules, small));
+        assert!(!met);
+        let missed = |key: &str| table.lines().any(|l| l.contains("MISSED") && l.ends_with(key));
+        assert!(missed("refusal:7") && missed("rounds:15+") && missed("case:6"));
+        assert!(!missed("case:0"));
+        let (table, met) = quota_table(rules, &Tally::default());
+        assert!(!met);
+        assert_eq!(table.matches("MISSED").count(), quotas(rules).len());
+    }
 }
 
 fn repeatable() {
@@ -64,11 +73,12 @@ fn valid_items() {
     }
 }
 
-fn proposed_certificates() {
-    let tally = measure_proposals(8, 3000);
+/// Counts by kind and by what the checker says.
+fn proposed_certificates(rules: Rules) -> Tally {
+    let tally = measure_proposals(rules, 8, 3000);
     let count =
         |kind: ProposalKind, word: &str| tally.get(&format!("proposal:{}:{word}", kind.name()));
-    for kind in ProposalKind::ALL {
+    for &kind in ProposalKind::drawn(rules) {
         let (thirteen, fourteen) = (count(kind, "refused-13"), count(kind, "refused-14"));
         let accepted = count(kind, "accepted");
         assert!(accepted + thirteen + fourteen > 1000);
@@ -89,28 +99,39 @@ fn proposed_certificates() {
     for often_wrong in [ByteAltered, Cut, WrongAttack, RecordMissing] {
         assert!(count(often_wrong, "refused-14") >= 50, "{}", often_wrong.name());
     }
+    tally
 }
 
-/// Whether a list of kind 17 names a position whose end marks differ with
+/// Kinds of the other game are always a matter of 13; its own lists under
+/// this game's kinds are well formed, and some of them right.
+fn one_way_certificates() {
+    let tally = proposed_certificates(Rules::ONE_WAY);
+    let count = |key: &str| tally.get(&format!("proposal:{key}"));
+    assert_eq!(count("other-kinds:accepted") + count("other-kinds:refused-14"), 0);
+    assert_eq!(count("other-rules:refused-13"), 0);
+    assert!(count("other-rules:accepted") >= 500 && count("other-rules:refused-14") >= 200);
+}
+
+/// Whether a list of lost positions names one that is lost at once with
 /// rounds above 0.
-fn lists_marks_by_attack(task: &Task, certificate: &[u8]) -> bool {
+fn lists_marks_by_attack(rules: Rules, task: &Task, certificate: &[u8]) -> bool {
     certificate.chunks(LOST_LENGTH).any(|record| {
         let position = Position::from_bytes(&record[1..9]);
-        position.is_lost_at_once(Rules::TWO_WAY, task) && record[12..] != [0; 4]
+        position.is_lost_at_once(rules, task) && record[12..] != [0; 4]
     })
 }
 
-fn marked_later() {
+fn marked_later(rules: Rules) {
     let mut met = 0;
     for index in 0..3000 {
         let Ok(task) = read(&item(9, index).bytes) else {
             continue;
         };
-        let solution = solve(Rules::TWO_WAY, &task);
+        let solution = solve(rules, &task);
         let mut random = Random::for_item(9, index);
         let made = proposal(&mut random, &task, &solution, ProposalKind::MarkedLater);
-        if solution.verdict == Verdict::Differ {
-            met += lists_marks_by_attack(&task, &made) as usize;
+        if !solution.verdict.is_kept() {
+            met += lists_marks_by_attack(rules, &task, &made) as usize;
         }
     }
     assert!(met >= 50, "{met}");

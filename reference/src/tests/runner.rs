@@ -2,12 +2,18 @@
 //! and that it reports what is wrong.
 
 use crate::Test;
+use reference::check::CheckAnswer;
+use reference::frames::Response;
+use reference::rules::Rules;
 use std::path::{Path, PathBuf};
 use std::process::Command;
 
 pub const TESTS: &[Test] = &[
     ("runner: adapter gives the same answers", same_answers),
+    ("runner: adapter gives the same answers, one-way", same_answers_one_way),
     ("runner: program gives the same lines", same_lines),
+    ("runner: one kind of proposed certificates", one_proposal),
+    ("runner: an answer by the other game is reported", other_game),
     ("runner: a given task", given_task),
     ("runner: every cut and every byte of a certificate", swept_certificate),
     ("runner: each altered answer is reported", faults),
@@ -38,53 +44,92 @@ fn runner(arguments: &[&str], command: &[&Path]) -> (Option<i32>, String) {
     (output.status.code(), String::from_utf8_lossy(&output.stdout).into_owned())
 }
 
-fn same_answers() {
-    let adapter = built("reference-adapter");
+/// 3,000 cases, with these counts and each of the refusals 1 to 10.
+fn assert_same(operation: &str, counts: &[&str]) {
     let refusals: Vec<String> = (1..=10).map(|n| format!("refusal:{n}:10")).collect();
-    for (operation, more) in [
-        ("read", &["refusal:0:500"][..]),
-        (
-            "compare",
-            &[
-                "refusal:11:50",
-                "refusal:12:50",
-                "verdict:EQUAL:300",
-                "answer:EQUAL:100",
-                "answer:DIFFER:100",
-                "rounds:15+:10",
-                "table:one-less:50",
-                "table:zero:50",
-                "table:spare:50",
-                "buffer:exact:50",
-            ],
-        ),
-        ("check", &["refusal:13:300", "refusal:14:300", "verdict:EQUAL:100", "verdict:DIFFER:100"]),
-    ] {
-        let mut arguments = vec![operation, "--seed", "11", "--count", "3000"];
-        let required = refusals.iter().map(|s| s.as_str()).chain(more.iter().copied());
-        for key in required {
-            arguments.extend(["--require", key]);
-        }
-        let (status, text) = runner(&arguments, &[&adapter]);
-        assert_eq!(status, Some(0), "{text}");
-        assert!(text.ends_with("SAME: 3000 cases, 0 mismatches, 0 counts too small\n"), "{text}");
+    let mut arguments = vec![operation, "--seed", "11", "--count", "3000"];
+    let required = refusals.iter().map(|s| s.as_str()).chain(counts.iter().copied());
+    for key in required {
+        arguments.extend(["--require", key]);
     }
+    let (status, text) = runner(&arguments, &[&built("reference-adapter")]);
+    assert_eq!(status, Some(0), "{text}");
+    assert!(text.ends_with("SAME: 3000 cases, 0 mismatches, 0 counts too small\n"), "{text}");
+}
+
+const SIZES: [&str; 7] = [
+    "refusal:11:50",
+    "refusal:12:50",
+    "rounds:15+:10",
+    "table:one-less:50",
+    "table:zero:50",
+    "table:spare:50",
+    "buffer:exact:50",
+];
+
+fn same_answers() {
+    assert_same("read", &["refusal:0:500"]);
+    let verdicts = ["verdict:EQUAL:300", "answer:EQUAL:100", "answer:DIFFER:100"];
+    assert_same("compare", &[&SIZES[..], &verdicts].concat());
+    assert_same(
+        "check",
+        &["refusal:13:300", "refusal:14:300", "verdict:EQUAL:100", "verdict:DIFFER:100"],
+    );
+}
+
+fn same_answers_one_way() {
+    let verdicts = ["answer:FOLLOWS:100", "answer:FALLS-SHORT:100", "beside:DIFFER-but-kept:300"];
+    assert_same("compare-one-way", &[&SIZES[..], &verdicts].concat());
+    assert_same(
+        "check-one-way",
+        &[
+            "refusal:13:300",
+            "refusal:14:300",
+            "verdict:FOLLOWS:100",
+            "verdict:FALLS-SHORT:100",
+            "proposal:other-kinds:50",
+            "proposal:other-rules:50",
+        ],
+    );
 }
 
 fn same_lines() {
-    let arguments = [
-        "program",
-        "--seed",
-        "12",
-        "--count",
-        "600",
-        "--require",
-        "too-long:3",
-        "--require",
-        "verdict:DIFFER:100",
-    ];
+    let program = built("reference-compare");
+    let one_way = Path::new("--one-way");
+    for (operation, command, verdict) in [
+        ("program", &[program.as_path()][..], "verdict:DIFFER:100"),
+        ("program-one-way", &[&program, one_way], "verdict:FALLS-SHORT:100"),
+    ] {
+        let arguments = [operation, "--seed", "12", "--count", "600"];
+        let required = ["--require", "too-long:3", "--require", verdict];
+        let (status, text) = runner(&[&arguments[..], &required].concat(), command);
+        assert_eq!(status, Some(0), "{text}");
+    }
+}
+
+fn one_proposal() {
+    for operation in ["check", "check-one-way"] {
+        let arguments = [operation, "--seed", "17", "--count", "300", "--kind", "near"];
+        let required = ["--proposal", "other-kinds", "--require", "refusal:13:300"];
+        let all = [&arguments[..], &required].concat();
+        let (status, text) = runner(&all, &[&built("reference-adapter")]);
+        assert_eq!(status, Some(0), "{text}");
+    }
+    let unknown = ["check", "--proposal", "no-such-kind"];
+    assert_eq!(runner(&unknown, &[&built("reference-adapter")]).0, Some(2));
+}
+
+/// A program that plays the other game, and an answer to the other question:
+/// the numbers of a refusal are the same, but not the first byte.
+fn other_game() {
+    let arguments = ["program-one-way", "--seed", "12", "--count", "60", "--kind", "near"];
     let (status, text) = runner(&arguments, &[&built("reference-compare")]);
-    assert_eq!(status, Some(0), "{text}");
+    assert_eq!(status, Some(1), "{text}");
+    assert!(text.contains("5 mismatches"), "{text}");
+    let answer = CheckAnswer { refusal: 13, ..CheckAnswer::default() };
+    let [two, one] = Rules::ALL.map(|rules| Response::Check { rules, answer }.payload());
+    assert_eq!((two[0], one[0], &two[1..]), (3, 5, &one[1..]));
+    assert_ne!(Response::from_payload(&two), Response::from_payload(&one));
 }
 
 /// The file name of a family's task.
@@ -106,11 +151,13 @@ fn given_task() {
 fn swept_certificate() {
     // 3 rounds, so 4 records of 16 bytes.
     let name = family_file("chain", &[4]);
-    for (sweep, cases, required) in [
-        ("cuts", 65, ["refusal:0:1", "refusal:14:4", "refusal:13:60"]),
-        ("bytes", 64 * 255, ["refusal:0:200", "refusal:14:4000", "refusal:13:2000"]),
+    for (operation, sweep, cases, required) in [
+        ("check", "cuts", 65, ["refusal:0:1", "refusal:14:4", "refusal:13:60"]),
+        ("check", "bytes", 64 * 255, ["refusal:0:200", "refusal:14:4000", "refusal:13:2000"]),
+        // FOLLOWS, so 4 records of 9 bytes.
+        ("check-one-way", "cuts", 37, ["refusal:0:1", "refusal:14:4", "refusal:13:32"]),
     ] {
-        let mut arguments = vec!["check", "--task", &name, "--sweep", sweep];
+        let mut arguments = vec![operation, "--task", &name, "--sweep", sweep];
         required.iter().for_each(|key| arguments.extend(["--require", key]));
         let (status, text) = runner(&arguments, &[&built("reference-adapter")]);
         assert_eq!(status, Some(0), "{text}");
@@ -125,13 +172,16 @@ fn swept_certificate() {
 }
 
 fn faults() {
-    let fields: [(&str, &[&str]); 4] = [
-        ("read", &["refusal", "dump"]),
-        ("compare", &["refusal", "verdict", "positions", "rounds", "length", "table", "buffer"]),
-        ("check", &["refusal", "verdict", "rounds"]),
+    let compared = ["refusal", "verdict", "positions", "rounds", "length", "table", "buffer"];
+    let checked = ["refusal", "verdict", "rounds"];
+    for (operation, names) in [
+        ("read", &["refusal", "dump"][..]),
+        ("compare", &compared),
+        ("check", &checked),
         ("program", &["text"]),
-    ];
-    for (operation, names) in fields {
+        ("compare-one-way", &compared),
+        ("check-one-way", &checked),
+    ] {
         let partner =
             if operation == "program" { "reference-compare" } else { "reference-adapter" };
         for name in names {

@@ -1,5 +1,5 @@
-//! Reference implementation of the reader comparer, written from the two
-//! papers alone. See README.md for the programs and READINGS.md for the
+//! Reference implementation of the reader comparer, written from the papers
+//! alone. See README.md for the programs and READINGS.md for the
 //! places where the papers left a choice.
 
 pub mod baseline;

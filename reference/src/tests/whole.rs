@@ -39,6 +39,7 @@ pub const TESTS: &[Test] = &[
     ("baseline: same answers as the plain comparer, one-way", || baseline_agrees(Rules::ONE_WAY)),
     ("families: dearest counts", dearest_counts),
     ("families: rounds of chains and rings", chain_rounds),
+    ("families: rounds of chains and rings, one-way", one_way_rounds),
     ("families: ring of 16 states and 6 registers", large_ring),
 ];
 
@@ -424,6 +425,21 @@ fn chain_rounds() {
     for long in 3..=16 {
         let solution = solve(Rules::TWO_WAY, &family("rings", &[long, long - 1]).expect("rings"));
         assert_eq!(solution.rounds as usize, 2 * long - 3);
+        assert_eq!(solution.entries.len(), long * (long - 1));
+    }
+}
+
+fn one_way_rounds() {
+    for states in 2..=16 {
+        let task = family("chain", &[states]).expect("chain");
+        assert_eq!(solve(Rules::ONE_WAY, &task).verdict, Verdict::Follows);
+        let back = solve(Rules::ONE_WAY, &task.exchanged());
+        assert_eq!((back.verdict, back.rounds as usize), (Verdict::FallsShort, states - 1));
+    }
+    for long in 3..=16 {
+        let task = family("rings", &[long, long - 1]).expect("rings");
+        let solution = solve(Rules::ONE_WAY, &task);
+        assert_eq!(solution.rounds as usize, 2 * long - 2);
         assert_eq!(solution.entries.len(), long * (long - 1));
     }
 }

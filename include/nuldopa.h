@@ -1,14 +1,17 @@
 /* Nuldopa: compares two reader models, and checks certificates. The C boundary of the static library libexports.a.
  *
- * A task is a file of two reader models and a matching. A comparison answers EQUAL or DIFFER, with a table of the positions
- * reached and a certificate, or one of the numbered refusals. What is returned, and what the buffers then hold, is proved to
- * be what the scope paper says, for every content and every length of the buffers.
+ * A task is a file of two reader models, left and right, and a matching. There are two games. In the first either side
+ * attacks: a comparison answers EQUAL or DIFFER. In the one-way game only the left side attacks: a comparison answers FOLLOWS
+ * or FALLS SHORT. With the answer come a table of the positions reached and a certificate, or else one of the numbered
+ * refusals. What is returned, and what the buffers then hold, is proved to be what the scope paper says, for every content
+ * and every length of the buffers.
  *
- * Proved of nuldopa_compare and nuldopa_check, but assumed of their caller: each pointer leads to as many bytes as its
- * length says (all of which hold a value), is not null even where the length is 0, and no byte that can be written is in two
- * buffers. Who cannot be sure of that calls nuldopa_try_compare and nuldopa_try_check below, which test what can be tested.
+ * Proved of nuldopa_compare, nuldopa_check and both functions of the one-way game, but assumed of their caller: each pointer
+ * leads to as many bytes as its length says (all of which hold a value), is not null even where the length is 0, and no byte
+ * that can be written is in two buffers. Who cannot be sure of that calls the functions nuldopa_try_... below, which test
+ * what can be tested.
  *
- * The functions keep no memory between calls and take none: nuldopa_compare works in the lent table. A call needs less than
+ * The functions keep no memory between calls and take none: a comparison works in the lent table. A call needs less than
  * 64 KB of stack (tested, not proved). They can be called from several threads at once, as long as no call is lent bytes
  * that another one writes. Buffers need no alignment.
  *
@@ -27,15 +30,18 @@ extern "C" {
 /* Sizes in bytes, and the most positions that any task reaches. */
 enum {
     NULDOPA_ENTRY_BYTES = 12, /* a table entry: position, then rounds */
-    NULDOPA_KEPT_BYTES = 9,   /* a certificate record of EQUAL: 16, position */
-    NULDOPA_LOST_BYTES = 16,  /* a certificate record of DIFFER: 17, position, side, edge, case, rounds */
+    NULDOPA_KEPT_BYTES = 9,   /* a certificate record of EQUAL or FOLLOWS: kind, position */
+    NULDOPA_LOST_BYTES = 16,  /* one of DIFFER or FALLS SHORT: kind, position, side, edge, case, rounds */
     NULDOPA_MOST_POSITIONS = 3411712
 };
 
-/* Verdicts: the kinds of their certificates' records. */
+/* Verdicts: the kinds of their certificates' records. EQUAL gives FOLLOWS, for the task and for the one with its sides
+ * exchanged, where that one-way comparison is not refused; the other way round it need not. */
 enum {
-    NULDOPA_EQUAL = 16,
-    NULDOPA_DIFFER = 17
+    NULDOPA_EQUAL = 16,      /* whatever one reader takes, the other can take too, and so on without end */
+    NULDOPA_DIFFER = 17,     /* who chooses side and field can force unlike end marks or a missing reply */
+    NULDOPA_FOLLOWS = 18,    /* whatever the left reader takes, the right one can take too, and so on without end */
+    NULDOPA_FALLS_SHORT = 19 /* who chooses left's fields can force left end mark 1 and right 0, or a missing reply */
 };
 
 /* Refusals, in checking order; in one record of a task the lowest number counts. */
@@ -56,7 +62,7 @@ enum {
     NULDOPA_CERTIFICATE_NOT_ACCEPTED = 14 /* well formed, and not accepted */
 };
 
-/* Refusals of nuldopa_try_compare and nuldopa_try_check alone, which the proved functions never give. */
+/* Refusals of the functions nuldopa_try_... alone, which the proved functions never give. */
 enum {
     NULDOPA_NULL_BUFFER = 100,      /* a null pointer with a length above 0 */
     NULDOPA_BUFFERS_OVERLAP = 101,  /* a buffer that can be written has a byte in common with another */
@@ -66,10 +72,10 @@ enum {
 /* What a call returns. After a refusal all but its number is 0. */
 struct nuldopa_answer {
     uint32_t refusal;   /* 0, or the number of the refusal */
-    uint32_t verdict;   /* NULDOPA_EQUAL or NULDOPA_DIFFER */
+    uint32_t verdict;   /* NULDOPA_EQUAL or NULDOPA_DIFFER; in the one-way game NULDOPA_FOLLOWS or NULDOPA_FALLS_SHORT */
     uint32_t positions; /* positions reached, so many entries are filled; 0 from the checker */
-    uint32_t rounds;    /* DIFFER: the least count of rounds that is enough; from the checker, the start's listed rounds.
-                           EQUAL: 0 */
+    uint32_t rounds;    /* DIFFER, FALLS SHORT: the least count of rounds that is enough; from the checker, the start's
+                           listed rounds. EQUAL, FOLLOWS: 0 */
     size_t length;      /* bytes of the certificate; 0 from the checker */
 };
 
@@ -95,6 +101,16 @@ struct nuldopa_answer {
 struct nuldopa_answer nuldopa_compare(const uint8_t *task, size_t task_length, uint8_t *table, size_t table_length,
                                       uint8_t *certificate, size_t certificate_length);
 
+/* The one-way comparison: as nuldopa_compare, in its arguments, answer, table and refusals, but only the left side attacks,
+ * and a position is lost in 0 rounds if its left end mark is 1 and its right one 0. FOLLOWS stands for EQUAL: every input
+ * that the left reader takes the right one takes too. FALLS SHORT stands for DIFFER.
+ *
+ * Both games reach the same positions, and so meet 11 alike. A FOLLOWS certificate can be longer than the EQUAL one, so 12
+ * can come where nuldopa_compare gives a verdict.
+ */
+struct nuldopa_answer nuldopa_compare_one_way(const uint8_t *task, size_t task_length, uint8_t *table,
+                                              size_t table_length, uint8_t *certificate, size_t certificate_length);
+
 /* Checks a proposed certificate for a task, whoever wrote it.
  *
  * task         the task file's bytes
@@ -107,12 +123,21 @@ struct nuldopa_answer nuldopa_compare(const uint8_t *task, size_t task_length, u
  * start, rounds 0 has differing end marks and zero fields, and otherwise the attack exists and each reply leads to a listed
  * position of fewer rounds. The certificates that nuldopa_compare writes are accepted.
  *
- * Refusals 1 to 10 are about the task, 13 and 14 about the certificate; 11 and 12 are not given. Nothing is written.
+ * Refusals 1 to 10 are about the task, 13 and 14 about the certificate; 11 and 12 are not given. Kinds 18 and 19 are unknown
+ * here and meet 13. Nothing is written.
  */
 struct nuldopa_answer nuldopa_check(const uint8_t *task, size_t task_length, const uint8_t *certificate,
                                     size_t certificate_length);
 
-/* The rest of this file is not proved but tested: what the two functions above assume is tested first, as far as it can be.
+/* The one-way check: as nuldopa_check, by the game of nuldopa_compare_one_way, whose certificates are accepted. FOLLOWS is
+ * accepted exactly if the start is listed and each listed position is not lost in 0 rounds and has a reply to each attack of
+ * the left side that leads to a listed position; FALLS SHORT as DIFFER, but rounds 0 has left end mark 1 and right 0, and an
+ * attack of the right side does not exist. Here kinds 16 and 17 meet 13.
+ */
+struct nuldopa_answer nuldopa_check_one_way(const uint8_t *task, size_t task_length, const uint8_t *certificate,
+                                            size_t certificate_length);
+
+/* The rest of this file is not proved but tested: what the functions above assume is tested first, as far as it can be.
  * Whether a pointer leads to as many bytes as its length says cannot be. */
 
 static inline struct nuldopa_answer nuldopa_refused(uint32_t refusal)
@@ -139,38 +164,82 @@ static inline int nuldopa_overlap(const void *one, size_t one_length, const void
     return one_length > 0 && two_length > 0 && first < second + two_length && second < first + one_length;
 }
 
-/* As nuldopa_compare, for pointers and lengths of any kind. A null pointer with length 0 is an empty buffer. Refusals 100,
- * 102 and 101, tested in this order and before all others, read and write nothing. */
-static inline struct nuldopa_answer nuldopa_try_compare(const uint8_t *task, size_t task_length, uint8_t *table,
-                                                        size_t table_length, uint8_t *certificate,
-                                                        size_t certificate_length)
+/* The refusal of three buffers of which two can be written, or 0. */
+static inline uint32_t nuldopa_refusal_to_compare(const uint8_t *task, size_t task_length, const uint8_t *table,
+                                                  size_t table_length, const uint8_t *certificate,
+                                                  size_t certificate_length)
 {
-    uint8_t empty = 0;
     if (nuldopa_is_missing(task, task_length) || nuldopa_is_missing(table, table_length) ||
         nuldopa_is_missing(certificate, certificate_length))
-        return nuldopa_refused(NULDOPA_NULL_BUFFER);
+        return NULDOPA_NULL_BUFFER;
     if (nuldopa_is_too_large(task, task_length) || nuldopa_is_too_large(table, table_length) ||
         nuldopa_is_too_large(certificate, certificate_length))
-        return nuldopa_refused(NULDOPA_LENGTH_TOO_LARGE);
+        return NULDOPA_LENGTH_TOO_LARGE;
     if (nuldopa_overlap(task, task_length, table, table_length) ||
         nuldopa_overlap(task, task_length, certificate, certificate_length) ||
         nuldopa_overlap(table, table_length, certificate, certificate_length))
-        return nuldopa_refused(NULDOPA_BUFFERS_OVERLAP);
-    return nuldopa_compare(task ? task : &empty, task_length, table ? table : &empty, table_length,
-                           certificate ? certificate : &empty, certificate_length);
+        return NULDOPA_BUFFERS_OVERLAP;
+    return 0;
 }
 
-/* As nuldopa_check, for pointers and lengths of any kind. Refusals 100 and 102 as above; 101 is not given, since nothing is
- * written. */
-static inline struct nuldopa_answer nuldopa_try_check(const uint8_t *task, size_t task_length,
-                                                      const uint8_t *certificate, size_t certificate_length)
+typedef struct nuldopa_answer nuldopa_compare_function(const uint8_t *, size_t, uint8_t *, size_t, uint8_t *, size_t);
+typedef struct nuldopa_answer nuldopa_check_function(const uint8_t *, size_t, const uint8_t *, size_t);
+
+/* One of the comparisons or checks above, after the tests. */
+static inline struct nuldopa_answer nuldopa_try_comparing(nuldopa_compare_function *compare, const uint8_t *task,
+                                                          size_t task_length, uint8_t *table, size_t table_length,
+                                                          uint8_t *certificate, size_t certificate_length)
+{
+    uint8_t empty = 0;
+    uint32_t refusal = nuldopa_refusal_to_compare(task, task_length, table, table_length, certificate, certificate_length);
+    if (refusal != 0)
+        return nuldopa_refused(refusal);
+    return compare(task ? task : &empty, task_length, table ? table : &empty, table_length,
+                   certificate ? certificate : &empty, certificate_length);
+}
+
+static inline struct nuldopa_answer nuldopa_try_checking(nuldopa_check_function *check, const uint8_t *task,
+                                                         size_t task_length, const uint8_t *certificate,
+                                                         size_t certificate_length)
 {
     uint8_t empty = 0;
     if (nuldopa_is_missing(task, task_length) || nuldopa_is_missing(certificate, certificate_length))
         return nuldopa_refused(NULDOPA_NULL_BUFFER);
     if (nuldopa_is_too_large(task, task_length) || nuldopa_is_too_large(certificate, certificate_length))
         return nuldopa_refused(NULDOPA_LENGTH_TOO_LARGE);
-    return nuldopa_check(task ? task : &empty, task_length, certificate ? certificate : &empty, certificate_length);
+    return check(task ? task : &empty, task_length, certificate ? certificate : &empty, certificate_length);
+}
+
+/* As nuldopa_compare and nuldopa_compare_one_way, for pointers and lengths of any kind. A null pointer with length 0 is an
+ * empty buffer. Refusals 100, 102 and 101, tested in this order and before all others, read and write nothing. */
+static inline struct nuldopa_answer nuldopa_try_compare(const uint8_t *task, size_t task_length, uint8_t *table,
+                                                        size_t table_length, uint8_t *certificate,
+                                                        size_t certificate_length)
+{
+    return nuldopa_try_comparing(nuldopa_compare, task, task_length, table, table_length, certificate,
+                                 certificate_length);
+}
+
+static inline struct nuldopa_answer nuldopa_try_compare_one_way(const uint8_t *task, size_t task_length, uint8_t *table,
+                                                                size_t table_length, uint8_t *certificate,
+                                                                size_t certificate_length)
+{
+    return nuldopa_try_comparing(nuldopa_compare_one_way, task, task_length, table, table_length, certificate,
+                                 certificate_length);
+}
+
+/* As nuldopa_check and nuldopa_check_one_way, for pointers and lengths of any kind. Refusals 100 and 102 as above; 101 is
+ * not given, since nothing is written. */
+static inline struct nuldopa_answer nuldopa_try_check(const uint8_t *task, size_t task_length,
+                                                      const uint8_t *certificate, size_t certificate_length)
+{
+    return nuldopa_try_checking(nuldopa_check, task, task_length, certificate, certificate_length);
+}
+
+static inline struct nuldopa_answer nuldopa_try_check_one_way(const uint8_t *task, size_t task_length,
+                                                              const uint8_t *certificate, size_t certificate_length)
+{
+    return nuldopa_try_checking(nuldopa_check_one_way, task, task_length, certificate, certificate_length);
 }
 
 #ifdef __cplusplus

@@ -1,24 +1,22 @@
-//! The Rust wrapper against the reference on generated tasks.
-use nuldopa::{check, compare_owned, Acceptance, Record, Report, Verdict};
+//! The Rust wrapper against the reference on generated tasks, in both games.
+use nuldopa::{Acceptance, Game, Record, Report, Verdict};
 use reference::compare::Solution;
 use reference::generate::{families::family, item};
-use reference::{baseline, model, task, text};
+use reference::model::Task;
+use reference::rules::Rules;
+use reference::{baseline, task, text};
 
-fn verdict(solution: &Solution) -> Verdict {
-    match solution.verdict {
-        model::Verdict::Equal => Verdict::Equal,
-        model::Verdict::Differ => Verdict::Differ,
-    }
-}
+/// A game as the wrapper and as the reference know it.
+const GAMES: [(Game, Rules); 2] = [(Game::Equality, Rules::TWO_WAY), (Game::OneWay, Rules::ONE_WAY)];
 
-/// The bytes that a record stands for.
-fn bytes(record: Record) -> Vec<u8> {
-    let position = record.position().bytes();
+/// The bytes that a record stands for in a certificate of this verdict.
+fn bytes(verdict: Verdict, record: Record) -> Vec<u8> {
+    let head = [&[verdict.number()][..], &record.position().bytes()].concat();
     match record {
-        Record::Kept { .. } => [&[16][..], &position].concat(),
+        Record::Kept { .. } => head,
         Record::Lost { attack, rounds, .. } => {
             let fields = attack.map_or([0; 3], |a| [a.side.number(), a.edge, a.case.number()]);
-            [&[17][..], &position, &fields, &rounds.to_be_bytes()].concat()
+            [&head[..], &fields, &rounds.to_be_bytes()].concat()
         }
     }
 }
@@ -28,35 +26,44 @@ fn same_entries(report: &Report, solution: &Solution) -> bool {
     report.entries().map(|(p, n)| (p.bytes(), n)).eq(expected)
 }
 
-/// The report holds what the reference found, and its certificate is accepted.
-fn agrees(bytes_of_task: &[u8], solution: &Solution) {
-    let report = compare_owned(bytes_of_task).expect("not refused");
-    assert_eq!((report.verdict, report.rounds), (verdict(solution), solution.rounds));
+/// The report holds what the reference finds, and its certificate is accepted.
+fn agrees((game, rules): (Game, Rules), bytes_of_task: &[u8], task: &Task) {
+    let solution = baseline::solve(rules, task);
+    let report = game.compare_owned(bytes_of_task).expect("not refused");
+    assert_eq!((report.verdict.number(), report.rounds), (solution.verdict.kind(), solution.rounds));
     assert_eq!(report.positions(), solution.entries.len());
-    assert!(same_entries(&report, solution));
+    assert!(same_entries(&report, &solution));
     assert_eq!(report.certificate, solution.certificate);
-    assert_eq!(report.records().flat_map(bytes).collect::<Vec<u8>>(), solution.certificate);
+    let records = report.records().flat_map(|record| bytes(report.verdict, record));
+    assert_eq!(records.collect::<Vec<u8>>(), solution.certificate);
     let accepted = Acceptance { verdict: report.verdict, rounds: report.rounds };
-    assert_eq!(check(bytes_of_task, &report.certificate), Ok(accepted));
+    assert_eq!(game.check(bytes_of_task, &report.certificate), Ok(accepted));
 }
 
-/// What `compare` prints, from a report.
+/// What `compare` or `compare_one_way` prints, from a report.
 fn printed(report: &Report) -> String {
     let head = format!("{} {} {}\n", report.verdict, report.positions(), report.rounds);
     report.records().fold(head, |lines, record| format!("{lines}{record}\n"))
 }
 
+/// The same answer to a task that may be refused.
+fn answers_alike(played: (Game, Rules), bytes: &[u8]) {
+    match task::read(bytes) {
+        Ok(task) => agrees(played, bytes, &task),
+        Err(refusal) => {
+            assert_eq!(played.0.compare_owned(bytes).map_err(|r| r.number()), Err(refusal.0));
+            assert_eq!(played.0.check(bytes, &[]).map_err(|r| r.number()), Err(refusal.0));
+        }
+    }
+}
+
+/// Every second task is compared in both games.
 #[test]
 fn generated_tasks() {
     for index in 0..3000 {
         let bytes = item(21, index).bytes;
-        match task::read(&bytes) {
-            Ok(task) => agrees(&bytes, &baseline::solve(&task)),
-            Err(refusal) => {
-                assert_eq!(compare_owned(&bytes).map_err(|r| r.number()), Err(refusal.0));
-                assert_eq!(check(&bytes, &[]).map_err(|r| r.number()), Err(refusal.0));
-            }
-        }
+        let games = if index % 2 == 0 { &GAMES[..] } else { &GAMES[..1] };
+        games.iter().for_each(|&played| answers_alike(played, &bytes));
     }
 }
 
@@ -64,9 +71,11 @@ fn generated_tasks() {
 fn printed_lines() {
     for index in 0..300 {
         let bytes = item(22, index).bytes;
-        if let Ok(report) = compare_owned(&bytes) {
-            if report.positions() <= text::TABLE_ENTRIES {
-                assert_eq!(printed(&report), text::compare_output(&bytes));
+        for (game, rules) in GAMES {
+            if let Ok(report) = game.compare_owned(&bytes) {
+                if report.positions() <= text::TABLE_ENTRIES {
+                    assert_eq!(printed(&report), text::compare_output_by(rules, &bytes));
+                }
             }
         }
     }
@@ -77,6 +86,6 @@ fn printed_lines() {
 fn growing_tables() {
     for (name, sizes) in [("exact", &[1024][..]), ("exact", &[1025]), ("dearest", &[6]), ("dearest-equal", &[5])] {
         let made = family(name, sizes).expect("a family");
-        agrees(&task::write(&made), &baseline::solve(&made));
+        GAMES.into_iter().for_each(|played| agrees(played, &task::write(&made), &made));
     }
 }

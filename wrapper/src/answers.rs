@@ -5,10 +5,37 @@ use std::fmt;
 
 #[derive(Clone, Copy, PartialEq, Eq, Hash, Debug)]
 pub enum Verdict {
-    /// A symbolic bisimulation contains the start.
+    /// A symbolic bisimulation contains the start: whatever one reader takes, the other can take too.
     Equal,
     /// There is none.
     Differ,
+    /// Whatever the left reader takes, the right one can take too.
+    Follows,
+    /// It is not so.
+    FallsShort,
+}
+
+impl Verdict {
+    pub const ALL: [Verdict; 4] = [Verdict::Equal, Verdict::Differ, Verdict::Follows, Verdict::FallsShort];
+
+    /// The kind of its certificate's records.
+    pub fn number(self) -> u8 {
+        match self {
+            Verdict::Equal => 16,
+            Verdict::Differ => 17,
+            Verdict::Follows => 18,
+            Verdict::FallsShort => 19,
+        }
+    }
+
+    pub fn from_number(number: u8) -> Option<Verdict> {
+        Verdict::ALL.into_iter().find(|verdict| verdict.number() == number)
+    }
+
+    /// EQUAL and FOLLOWS, whose certificates list positions that are never lost; of the others they list lost ones.
+    pub fn keeps(self) -> bool {
+        matches!(self, Verdict::Equal | Verdict::Follows)
+    }
 }
 
 impl fmt::Display for Verdict {
@@ -16,6 +43,8 @@ impl fmt::Display for Verdict {
         f.pad(match self {
             Verdict::Equal => "EQUAL",
             Verdict::Differ => "DIFFER",
+            Verdict::Follows => "FOLLOWS",
+            Verdict::FallsShort => "FALLS SHORT",
         })
     }
 }
@@ -97,7 +126,7 @@ pub struct Comparison {
     pub verdict: Verdict,
     /// Positions reached: so many entries of the table are filled.
     pub positions: usize,
-    /// The least count of rounds that is enough to show the difference; 0 for EQUAL.
+    /// The least count of rounds that is enough to show DIFFER or FALLS SHORT; 0 for EQUAL and FOLLOWS.
     pub rounds: u32,
     /// Bytes of the certificate, from the start of its buffer.
     pub length: usize,
@@ -107,15 +136,15 @@ pub struct Comparison {
 #[derive(Clone, Copy, PartialEq, Eq, Debug)]
 pub struct Acceptance {
     pub verdict: Verdict,
-    /// The rounds that the certificate lists for the start; 0 for EQUAL.
+    /// The rounds that the certificate lists for the start; 0 for EQUAL and FOLLOWS.
     pub rounds: u32,
 }
 
 /// The verdict, or the refusal. Other numbers than those here are never returned by the library.
 fn verdict(answer: Answer) -> Result<Verdict, Refusal> {
-    match (answer.refusal, answer.verdict) {
-        (0, 16) => Ok(Verdict::Equal),
-        (0, 17) => Ok(Verdict::Differ),
+    let named = u8::try_from(answer.verdict).ok().and_then(Verdict::from_number);
+    match (answer.refusal, named) {
+        (0, Some(verdict)) => Ok(verdict),
         (number @ 1..=14, _) => Err(Refusal::ALL[number as usize - 1]),
         _ => panic!("the library returned {answer:?}"),
     }

@@ -1,5 +1,6 @@
 //! The C boundary of the static library (include/nuldopa.h) as functions on slices, and nothing else: whoever uses it gets
 //! the numbers as they come.
+use super::Game;
 
 /// What a call returns; the fields are those of `struct nuldopa_answer`.
 #[derive(Clone, Copy, PartialEq, Eq, Debug)]
@@ -7,7 +8,7 @@
 pub struct Answer {
     /// 0, or the number of the refusal; then all else is 0.
     pub refusal: u32,
-    /// The kind of the certificate: 16 EQUAL, 17 DIFFER.
+    /// The kind of the certificate: 16 EQUAL, 17 DIFFER, 18 FOLLOWS, 19 FALLS SHORT.
     pub verdict: u32,
     /// Positions reached; 0 from the checker.
     pub positions: u32,
@@ -16,23 +17,23 @@ pub struct Answer {
     pub length: usize,
 }
 
+// Each buffer is a pointer and a length: task, table and certificate; task and proposed certificate.
 #[link(name = "exports", kind = "static")]
 extern "C" {
-    fn nuldopa_compare(
-        task: *const u8,
-        task_length: usize,
-        table: *mut u8,
-        table_length: usize,
-        certificate: *mut u8,
-        certificate_length: usize,
-    ) -> Answer;
-    fn nuldopa_check(task: *const u8, task_length: usize, certificate: *const u8, certificate_length: usize) -> Answer;
+    fn nuldopa_compare(_: *const u8, _: usize, _: *mut u8, _: usize, _: *mut u8, _: usize) -> Answer;
+    fn nuldopa_compare_one_way(_: *const u8, _: usize, _: *mut u8, _: usize, _: *mut u8, _: usize) -> Answer;
+    fn nuldopa_check(_: *const u8, _: usize, _: *const u8, _: usize) -> Answer;
+    fn nuldopa_check_one_way(_: *const u8, _: usize, _: *const u8, _: usize) -> Answer;
 }
 
-pub fn compare(task: &[u8], table: &mut [u8], certificate: &mut [u8]) -> Answer {
+pub fn compare(game: Game, task: &[u8], table: &mut [u8], certificate: &mut [u8]) -> Answer {
+    let compare = match game {
+        Game::Equality => nuldopa_compare,
+        Game::OneWay => nuldopa_compare_one_way,
+    };
     // The pointers and lengths are those of slices, so they are valid, and those that are written overlap nothing.
     unsafe {
-        nuldopa_compare(
+        compare(
             task.as_ptr(),
             task.len(),
             table.as_mut_ptr(),
@@ -43,7 +44,11 @@ pub fn compare(task: &[u8], table: &mut [u8], certificate: &mut [u8]) -> Answer 
     }
 }
 
-pub fn check(task: &[u8], certificate: &[u8]) -> Answer {
+pub fn check(game: Game, task: &[u8], certificate: &[u8]) -> Answer {
+    let check = match game {
+        Game::Equality => nuldopa_check,
+        Game::OneWay => nuldopa_check_one_way,
+    };
     // The pointers and lengths are those of slices, so they are valid.
-    unsafe { nuldopa_check(task.as_ptr(), task.len(), certificate.as_ptr(), certificate.len()) }
+    unsafe { check(task.as_ptr(), task.len(), certificate.as_ptr(), certificate.len()) }
 }

@@ -1,7 +1,8 @@
 //! Compares two reader models, and checks certificates: a safe wrapper of the proved static library.
 //!
-//! A comparison answers EQUAL or DIFFER with a certificate, or one of the refusals; docs/FORMATS.md says what a task, a
-//! position and a certificate are. The library works in the buffers that it is lent and keeps no memory of its own.
+//! A comparison answers EQUAL or DIFFER with a certificate, or one of the refusals; the one-way comparison, in which only the
+//! left side attacks, answers FOLLOWS or FALLS SHORT. docs/FORMATS.md says what a task, a position and a certificate are. The
+//! library works in the buffers that it is lent and keeps no memory of its own.
 //!
 //! ```no_run
 //! let task = std::fs::read("readers.task").unwrap();
@@ -12,6 +13,8 @@
 //!     }
 //!     Err(refusal) => println!("{refusal}"),
 //! }
+//! let covered = nuldopa::Game::OneWay.compare_owned(&task).unwrap().verdict == nuldopa::Verdict::Follows;
+//! println!("everything that left takes, right takes too: {covered}");
 //! ```
 
 mod answers;
@@ -23,7 +26,7 @@ mod tests;
 
 pub use answers::{Acceptance, Comparison, Refusal, Verdict};
 pub use records::{records, Attack, Case, Position, Record, Records, Side};
-pub use report::{compare_owned, entries, Entries, Report};
+pub use report::{entries, Entries, Report};
 
 /// Bytes of a table entry: a position, then its rounds.
 pub const ENTRY_LENGTH: usize = 12;
@@ -31,23 +34,60 @@ pub const ENTRY_LENGTH: usize = 12;
 /// No task reaches more positions, so a table of so many entries is never too small.
 pub const MOST_POSITIONS: usize = 3_411_712;
 
-/// Bytes of a certificate record: kind 16, and kind 17.
+/// Bytes of a certificate record: of kinds 16 and 18, and of kinds 17 and 19.
 pub const KEPT_LENGTH: usize = 9;
 pub const LOST_LENGTH: usize = 16;
 
-/// Compares the two models of a task.
-///
-/// After a verdict the table holds the positions reached, rising, each with its rounds ([`entries`]), then zeros; and the
-/// certificate stands at the start of its buffer, the rest of which is unchanged ([`records`]). Refusals 1 to 10 change
-/// neither; 11 and 12 fill the table with zeros and leave the certificate buffer. Refusals 13 and 14 are not given.
-///
-/// A table of [`MOST_POSITIONS`] entries of [`ENTRY_LENGTH`] bytes is always enough, and so is a certificate buffer of
-/// [`LOST_LENGTH`] bytes for each entry.
-pub fn compare(task: &[u8], table: &mut [u8], certificate: &mut [u8]) -> Result<Comparison, Refusal> {
-    answers::comparison(boundary::compare(task, table, certificate))
+/// Which side attacks, and which end marks lose at once. The functions below are those of [`Game::Equality`].
+#[derive(Clone, Copy, PartialEq, Eq, Hash, Debug)]
+pub enum Game {
+    /// Either side attacks, and end marks must be alike: EQUAL or DIFFER, with certificates of kinds 16 and 17.
+    Equality,
+    /// Only the left side attacks, and where its end mark is 1 the right one must be: FOLLOWS or FALLS SHORT, with
+    /// certificates of kinds 18 and 19. EQUAL gives FOLLOWS, also with the sides exchanged.
+    OneWay,
 }
 
-/// Checks a proposed certificate, whoever wrote it. Refusals 11 and 12 are not given.
+impl Game {
+    pub const ALL: [Game; 2] = [Game::Equality, Game::OneWay];
+
+    /// Compares the two models of a task.
+    ///
+    /// After a verdict the table holds the positions reached, rising, each with its rounds ([`entries`]), then zeros; and
+    /// the certificate stands at the start of its buffer, the rest of which is unchanged ([`records`]). Refusals 1 to 10
+    /// change neither; 11 and 12 fill the table with zeros and leave the certificate buffer. Refusals 13 and 14 are not
+    /// given.
+    ///
+    /// A table of [`MOST_POSITIONS`] entries of [`ENTRY_LENGTH`] bytes is always enough, and so is a certificate buffer of
+    /// [`LOST_LENGTH`] bytes for each entry.
+    pub fn compare(self, task: &[u8], table: &mut [u8], certificate: &mut [u8]) -> Result<Comparison, Refusal> {
+        answers::comparison(boundary::compare(self, task, table, certificate))
+    }
+
+    /// Compares the two models of a task in a table that grows until it is large enough. Only refusals 1 to 10 are given.
+    /// The largest table and its certificate buffer take 96 MB.
+    pub fn compare_owned(self, task: &[u8]) -> Result<Report, Refusal> {
+        report::compare_growing(self, task)
+    }
+
+    /// Checks a proposed certificate, whoever wrote it; the other game's kinds meet refusal 13. Refusals 11 and 12 are not
+    /// given.
+    pub fn check(self, task: &[u8], certificate: &[u8]) -> Result<Acceptance, Refusal> {
+        answers::acceptance(boundary::check(self, task, certificate))
+    }
+}
+
+/// [`Game::compare`] of equality.
+pub fn compare(task: &[u8], table: &mut [u8], certificate: &mut [u8]) -> Result<Comparison, Refusal> {
+    Game::Equality.compare(task, table, certificate)
+}
+
+/// [`Game::compare_owned`] of equality.
+pub fn compare_owned(task: &[u8]) -> Result<Report, Refusal> {
+    Game::Equality.compare_owned(task)
+}
+
+/// [`Game::check`] of equality.
 pub fn check(task: &[u8], certificate: &[u8]) -> Result<Acceptance, Refusal> {
-    answers::acceptance(boundary::check(task, certificate))
+    Game::Equality.check(task, certificate)
 }

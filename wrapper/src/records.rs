@@ -1,5 +1,5 @@
 //! Certificates, record by record.
-use super::{KEPT_LENGTH, LOST_LENGTH};
+use super::{Verdict, KEPT_LENGTH, LOST_LENGTH};
 use std::fmt;
 
 /// Two states and the partners of left registers 1 to 6 (0 is none). Positions rise as their bytes do.
@@ -85,9 +85,10 @@ pub struct Attack {
 
 #[derive(Clone, Copy, PartialEq, Eq, Hash, Debug)]
 pub enum Record {
-    /// Kind 16: the position is never lost.
+    /// Kinds 16 and 18: the position is never lost.
     Kept { position: Position },
-    /// Kind 17: the position is lost within these rounds by this attack; in 0 rounds by its end marks and without one.
+    /// Kinds 17 and 19: the position is lost within these rounds by this attack; in 0 rounds by its end marks and without
+    /// one.
     Lost { position: Position, attack: Option<Attack>, rounds: u32 },
 }
 
@@ -130,10 +131,10 @@ impl Iterator for Records<'_> {
     type Item = Record;
 
     fn next(&mut self) -> Option<Record> {
-        let (record, length) = match self.rest.first()? {
-            16 => (kept(self.rest), KEPT_LENGTH),
-            17 => (lost(self.rest), LOST_LENGTH),
-            _ => (None, 0),
+        let (record, length) = match Verdict::from_number(*self.rest.first()?) {
+            Some(verdict) if verdict.keeps() => (kept(self.rest), KEPT_LENGTH),
+            Some(_) => (lost(self.rest), LOST_LENGTH),
+            None => (None, 0),
         };
         self.rest = match record {
             Some(_) => &self.rest[length..],

@@ -1,11 +1,11 @@
 //! A comparison in memory of its own.
-use super::{compare, records, Position, Records, Refusal, Verdict, ENTRY_LENGTH, LOST_LENGTH, MOST_POSITIONS};
+use super::{records, Game, Position, Records, Refusal, Verdict, ENTRY_LENGTH, LOST_LENGTH, MOST_POSITIONS};
 
 /// A verdict with its table and its certificate.
 #[derive(Clone, PartialEq, Eq, Debug)]
 pub struct Report {
     pub verdict: Verdict,
-    /// 0 for EQUAL.
+    /// 0 for EQUAL and FOLLOWS.
     pub rounds: u32,
     /// The entries of the positions reached.
     pub table: Vec<u8>,
@@ -28,12 +28,11 @@ impl Report {
 
 const FIRST_ENTRIES: usize = 1024;
 
-/// Compares the two models of a task in a table that grows until it is large enough. Only refusals 1 to 10 are given. The
-/// largest table and its certificate buffer take 96 MB.
-pub fn compare_owned(task: &[u8]) -> Result<Report, Refusal> {
+/// In a table that grows until it is large enough.
+pub fn compare_growing(game: Game, task: &[u8]) -> Result<Report, Refusal> {
     let mut entries = FIRST_ENTRIES;
     loop {
-        let outcome = compare_in(task, entries);
+        let outcome = compare_in(game, task, entries);
         if outcome != Err(Refusal::TableTooSmall) || entries == MOST_POSITIONS {
             return outcome;
         }
@@ -42,10 +41,10 @@ pub fn compare_owned(task: &[u8]) -> Result<Report, Refusal> {
     }
 }
 
-fn compare_in(task: &[u8], entries: usize) -> Result<Report, Refusal> {
+fn compare_in(game: Game, task: &[u8], entries: usize) -> Result<Report, Refusal> {
     let mut table = vec![0; entries * ENTRY_LENGTH];
     let mut certificate = vec![0; entries * LOST_LENGTH];
-    let found = compare(task, &mut table, &mut certificate)?;
+    let found = game.compare(task, &mut table, &mut certificate)?;
     table.truncate(found.positions * ENTRY_LENGTH);
     certificate.truncate(found.length);
     table.shrink_to_fit();

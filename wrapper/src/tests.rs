@@ -44,6 +44,57 @@ fn differing_end_marks() {
     assert!(report.entries().eq([(position(0, 0, [0; 6]), Some(0))]));
 }
 
+/// Case 11: the left reader can still choose where the right one has chosen; with the sides exchanged nothing is missing.
+#[test]
+fn one_way_readers() {
+    let (task, exchanged) = (sample!("case-11"), sample!("case-11-exchanged"));
+    let report = Game::OneWay.compare_owned(task).unwrap();
+    assert_eq!((report.verdict, report.positions(), report.rounds), (Verdict::FallsShort, 4, 2));
+    assert_eq!(report.certificate.len(), 48);
+    let attack = Attack { side: Side::Left, edge: 0, case: Case::Held };
+    let start = position(0, 0, [1, 0, 0, 0, 0, 0]);
+    assert_eq!(report.records().next(), Some(Record::Lost { position: start, attack: Some(attack), rounds: 2 }));
+    assert_eq!(report.records().count(), 3);
+    let accepted = Acceptance { verdict: Verdict::FallsShort, rounds: 2 };
+    assert_eq!(Game::OneWay.check(task, &report.certificate), Ok(accepted));
+
+    let report = Game::OneWay.compare_owned(exchanged).unwrap();
+    assert_eq!((report.verdict, report.positions(), report.rounds), (Verdict::Follows, 4, 0));
+    assert_eq!(report.certificate.len(), 36);
+    assert_eq!(report.records().map(|record| record.to_string()).last().unwrap(), "KEPT 3 2 1 0 0 0 0 0");
+    let accepted = Acceptance { verdict: Verdict::Follows, rounds: 0 };
+    assert_eq!(Game::OneWay.check(exchanged, &report.certificate), Ok(accepted));
+    assert_eq!(compare_owned(exchanged).unwrap().verdict, Verdict::Differ);
+}
+
+#[test]
+fn one_way_end_marks() {
+    let outcome = |task| Game::OneWay.compare_owned(task).map(|report| (report.verdict, report.rounds));
+    assert_eq!(outcome(sample!("case-06")), Ok((Verdict::FallsShort, 0)));
+    assert_eq!(outcome(sample!("case-06-exchanged")), Ok((Verdict::Follows, 0)));
+}
+
+/// Each game's own kinds are unknown to the other's check.
+#[test]
+fn kinds_of_the_other_game() {
+    for (game, other) in [(Game::Equality, Game::OneWay), (Game::OneWay, Game::Equality)] {
+        for task in [&sample!("case-01")[..], sample!("case-11")] {
+            let certificate = game.compare_owned(task).unwrap().certificate;
+            assert!(game.check(task, &certificate).is_ok());
+            assert_eq!(other.check(task, &certificate), Err(Refusal::CertificateIllFormed));
+        }
+    }
+}
+
+#[test]
+fn verdicts() {
+    for (verdict, (number, name)) in Verdict::ALL.into_iter().zip((16..).zip(["EQUAL", "DIFFER", "FOLLOWS", "FALLS SHORT"])) {
+        assert_eq!((verdict.number(), verdict.to_string()), (number, name.to_string()));
+        assert_eq!(Verdict::from_number(number), Some(verdict));
+    }
+    assert_eq!((Verdict::from_number(15), Verdict::from_number(20)), (None, None));
+}
+
 #[test]
 fn lent_slices() {
     let task = sample!("case-01");
@@ -63,7 +114,7 @@ fn refusals() {
     assert_eq!(compare_owned(&[]), Err(Refusal::TaskCut));
     assert_eq!(compare_owned(sample!("case-08")), Err(Refusal::RegisterRuleBroken));
     assert_eq!(check(&[9], &[]), Err(Refusal::UnknownRecord));
-    assert_eq!(check(sample!("case-01"), &[18]), Err(Refusal::CertificateIllFormed));
+    assert_eq!(check(sample!("case-01"), &[20]), Err(Refusal::CertificateIllFormed));
     assert_eq!(check(sample!("case-01"), &[]), Err(Refusal::CertificateNotAccepted));
     let numbers: Vec<u32> = Refusal::ALL.iter().map(|r| r.number()).collect();
     assert!(numbers.into_iter().eq(1..=14));
@@ -75,7 +126,7 @@ fn refusals() {
 fn records_of_other_bytes() {
     let kept = compare_owned(sample!("case-01")).unwrap().certificate;
     assert_eq!(records(&kept[..17]).count(), 1);
-    assert_eq!(records(&[&kept[..], &[18]].concat()).count(), 2);
+    assert_eq!(records(&[&kept[..], &[20]].concat()).count(), 2);
     let lost = compare_owned(sample!("case-11")).unwrap().certificate;
     assert_eq!(records(&lost).count(), 3);
     for (place, byte) in [(9, 0), (9, 3), (11, 9), (15, 0)] {

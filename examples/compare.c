@@ -1,11 +1,13 @@
 /* Prints what the program `compare` prints, for the task file named on the command line, and writes the certificate's bytes
- * to a second file where one is named. Builds in the repository's folder, after `rt staticlib exports`, with
+ * to a second file where one is named; after the word `--one-way` what `compare_one_way` prints. Builds in the repository's
+ * folder, after `rt staticlib exports`, with
  *
  *     gcc -std=c11 -O2 -Wall -Wextra -I include examples/compare.c -L target/staticlib -lexports -o target/compare-c
  */
 #include "nuldopa.h"
 #include <inttypes.h>
 #include <stdio.h>
+#include <string.h>
 
 enum { TASK_BYTES = 4096, ENTRIES = 4000 };
 
@@ -19,10 +21,30 @@ static void print_bytes(const uint8_t *bytes, size_t count)
         printf(" %d", bytes[i]);
 }
 
+static const char *name_of(uint32_t verdict)
+{
+    switch (verdict) {
+    case NULDOPA_EQUAL:
+        return "EQUAL";
+    case NULDOPA_DIFFER:
+        return "DIFFER";
+    case NULDOPA_FOLLOWS:
+        return "FOLLOWS";
+    default:
+        return "FALLS SHORT";
+    }
+}
+
+/* Whether the certificate lists positions that are never lost. */
+static int keeps(uint32_t verdict)
+{
+    return verdict == NULDOPA_EQUAL || verdict == NULDOPA_FOLLOWS;
+}
+
 /* Two states and six partners; for a lost position then side, edge, case and rounds. */
 static void print_record(const uint8_t *record)
 {
-    int kept = record[0] == NULDOPA_EQUAL;
+    int kept = keeps(record[0]);
     printf(kept ? "KEPT" : "LOST");
     print_bytes(record + 1, kept ? 8 : 11);
     if (!kept) {
@@ -36,13 +58,12 @@ static void print_record(const uint8_t *record)
 
 static void print_answer(struct nuldopa_answer answer)
 {
-    size_t record_bytes = answer.verdict == NULDOPA_EQUAL ? NULDOPA_KEPT_BYTES : NULDOPA_LOST_BYTES;
+    size_t record_bytes = keeps(answer.verdict) ? NULDOPA_KEPT_BYTES : NULDOPA_LOST_BYTES;
     if (answer.refusal != 0) {
         printf("REFUSED %" PRIu32 "\n", answer.refusal);
         return;
     }
-    printf("%s %" PRIu32 " %" PRIu32 "\n", answer.verdict == NULDOPA_EQUAL ? "EQUAL" : "DIFFER", answer.positions,
-           answer.rounds);
+    printf("%s %" PRIu32 " %" PRIu32 "\n", name_of(answer.verdict), answer.positions, answer.rounds);
     for (size_t at = 0; at < answer.length; at += record_bytes)
         print_record(certificate + at);
 }
@@ -65,8 +86,11 @@ static int cannot(const char *what, const char *name)
 
 int main(int count, char **arguments)
 {
+    int one_way = count > 1 && strcmp(arguments[1], "--one-way") == 0;
+    count -= one_way;
+    arguments += one_way;
     if (count != 2 && count != 3) {
-        fprintf(stderr, "usage: compare-c TASKFILE [CERTIFICATEFILE]\n");
+        fprintf(stderr, "usage: compare-c [--one-way] TASKFILE [CERTIFICATEFILE]\n");
         return 1;
     }
     FILE *file = fopen(arguments[1], "rb");
@@ -81,8 +105,8 @@ int main(int count, char **arguments)
         printf("TOO LONG\n");
         return 0;
     }
-    struct nuldopa_answer answer =
-        nuldopa_compare(task, length, table, sizeof table, certificate, sizeof certificate);
+    struct nuldopa_answer answer = (one_way ? nuldopa_compare_one_way : nuldopa_compare)(
+        task, length, table, sizeof table, certificate, sizeof certificate);
     print_answer(answer);
     if (count == 3 && !write_certificate(arguments[2], answer.length))
         return cannot("written", arguments[2]);

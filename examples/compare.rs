@@ -1,5 +1,6 @@
 //! Prints what the program `compare` prints, for the task file named on the command line, and writes the certificate's bytes
-//! to a second file where one is named. Builds in the repository's folder, after `rt staticlib exports`, with
+//! to a second file where one is named; after the word `--one-way` what `compare_one_way` prints. Builds in the repository's
+//! folder, after `rt staticlib exports`, with
 //!
 //!     rustc --edition 2021 -O -L target/staticlib examples/compare.rs -o target/compare-rust
 //!
@@ -8,7 +9,7 @@
 #[path = "../wrapper/src/lib.rs"]
 mod nuldopa;
 
-use nuldopa::{compare, records, ENTRY_LENGTH, LOST_LENGTH};
+use nuldopa::{records, Game, ENTRY_LENGTH, LOST_LENGTH};
 use std::process::ExitCode;
 use std::{env, fs};
 
@@ -16,10 +17,10 @@ const TASK_BYTES: usize = 4096;
 const ENTRIES: usize = 4000;
 
 /// Prints the answer and returns the certificate, which is empty after a refusal.
-fn answer(task: &[u8]) -> Vec<u8> {
+fn answer(game: Game, task: &[u8]) -> Vec<u8> {
     let mut table = [0; ENTRIES * ENTRY_LENGTH];
     let mut certificate = vec![0; ENTRIES * LOST_LENGTH];
-    match compare(task, &mut table, &mut certificate) {
+    match game.compare(task, &mut table, &mut certificate) {
         Err(refusal) => {
             println!("REFUSED {}", refusal.number());
             certificate.clear();
@@ -33,13 +34,13 @@ fn answer(task: &[u8]) -> Vec<u8> {
     certificate
 }
 
-fn run(task_file: &str, certificate_file: Option<&String>) -> Result<(), String> {
+fn run(game: Game, task_file: &str, certificate_file: Option<&String>) -> Result<(), String> {
     let task = fs::read(task_file).map_err(|error| format!("{task_file} cannot be read: {error}"))?;
     if task.len() > TASK_BYTES {
         println!("TOO LONG");
         return Ok(());
     }
-    let certificate = answer(&task);
+    let certificate = answer(game, &task);
     let Some(file) = certificate_file else {
         return Ok(());
     };
@@ -48,10 +49,14 @@ fn run(task_file: &str, certificate_file: Option<&String>) -> Result<(), String>
 
 fn main() -> ExitCode {
     let arguments: Vec<String> = env::args().skip(1).collect();
-    let outcome = match &arguments[..] {
-        [task] => run(task, None),
-        [task, certificate] => run(task, Some(certificate)),
-        _ => Err("usage: compare-rust TASKFILE [CERTIFICATEFILE]".into()),
+    let (game, files) = match &arguments[..] {
+        [option, files @ ..] if option == "--one-way" => (Game::OneWay, files),
+        files => (Game::Equality, files),
+    };
+    let outcome = match files {
+        [task] => run(game, task, None),
+        [task, certificate] => run(game, task, Some(certificate)),
+        _ => Err("usage: compare-rust [--one-way] TASKFILE [CERTIFICATEFILE]".into()),
     };
     match outcome {
         Ok(()) => ExitCode::SUCCESS,

@@ -1,9 +1,9 @@
-//! Certificate bytes (01, "Verdict, table, certificate"): positions, kept or lost, with refusal 13.
+//! Certificate bytes (01, "Verdict, table, certificate"): positions, kept or lost, with refusal 13. The kind says by which
+//! game; that a check takes the kinds of one game alone is no matter here.
+use crate::game::Game;
 use crate::model::{Side, Task, REGISTERS};
 use crate::task::Refusal;
 
-const KEPT: u8 = 16;
-const LOST: u8 = 17;
 /// The bytes of a position in a record, and those of attack and rounds after it.
 const POSITION: usize = 2 + REGISTERS as usize;
 const ATTACK_AND_ROUNDS: usize = 3 + 4;
@@ -63,31 +63,58 @@ pub struct Loss {
 }
 
 #[derive(Clone, PartialEq, Eq, Debug)]
-pub enum Certificate {
+pub struct Certificate {
+    pub game: Game,
+    pub list: List,
+}
+
+#[derive(Clone, PartialEq, Eq, Debug)]
+pub enum List {
     /// Kept positions, each with the place where its record begins.
-    Equal(Vec<(usize, Position)>),
-    Differ(Vec<Loss>),
+    Kept(Vec<(usize, Position)>),
+    Lost(Vec<Loss>),
+}
+
+/// A kind of record: its game, and the bytes after a position, which kept ones do not have.
+struct Kind {
+    game: Game,
+    rest: usize,
+}
+
+impl Kind {
+    fn of(byte: u8) -> Option<Kind> {
+        let (game, rest) = match byte {
+            16 => (Game::Equality, 0),
+            17 => (Game::Equality, ATTACK_AND_ROUNDS),
+            18 => (Game::OneWay, 0),
+            19 => (Game::OneWay, ATTACK_AND_ROUNDS),
+            _ => return None,
+        };
+        Some(Kind { game, rest })
+    }
 }
 
 fn refused<T>(at: usize, words: &str) -> Result<T, Refusal> {
     Err(Refusal::new(13, at, words))
 }
 
-/// Reads a certificate of a task. The empty one is a list of no kept positions.
+/// The empty certificate is a list of no kept positions, in whatever game.
+const KIND_OF_NONE: u8 = 16;
+
+/// Reads a certificate of a task.
 pub fn read(task: &Task, bytes: &[u8]) -> Result<Certificate, Refusal> {
-    let kind = bytes.first().copied().unwrap_or(KEPT);
-    let length = match kind {
-        KEPT => POSITION,
-        LOST => POSITION + ATTACK_AND_ROUNDS,
-        _ => return refused(0, "expected records of kind 16 or 17"),
+    let byte = bytes.first().copied().unwrap_or(KIND_OF_NONE);
+    let Some(Kind { game, rest }) = Kind::of(byte) else {
+        return refused(0, "expected records of kind 16, 17, 18 or 19");
     };
+    let length = 1 + POSITION + rest;
     let mut records = Vec::new();
-    for (index, record) in bytes.chunks(1 + length).enumerate() {
-        let at = index * (1 + length);
-        if record[0] != kind {
+    for (index, record) in bytes.chunks(length).enumerate() {
+        let at = index * length;
+        if record[0] != byte {
             return refused(at, "expected records of one kind");
         }
-        if record.len() != 1 + length {
+        if record.len() != length {
             return refused(at, "expected a whole record, found the end of the file");
         }
         let position = Position::of(&record[1..]);
@@ -99,10 +126,11 @@ pub fn read(task: &Task, bytes: &[u8]) -> Result<Certificate, Refusal> {
     if let Some(pair) = records.windows(2).find(|pair| pair[0].1 >= pair[1].1) {
         return refused(pair[1].0, "expected positions that rise");
     }
-    Ok(match kind {
-        KEPT => Certificate::Equal(records.iter().map(|record| (record.0, record.1)).collect()),
-        _ => Certificate::Differ(records.into_iter().map(loss).collect()),
-    })
+    let list = match rest {
+        0 => List::Kept(records.iter().map(|record| (record.0, record.1)).collect()),
+        _ => List::Lost(records.into_iter().map(loss).collect()),
+    };
+    Ok(Certificate { game, list })
 }
 
 fn loss((at, position, rest): (usize, Position, &[u8])) -> Loss {

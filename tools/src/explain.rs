@@ -1,6 +1,7 @@
 //! Plays a certificate with actual numbers: every record once, to see that it shows what it says, and then what the
 //! start leads to, as steps for the words. What the certificate checker of 01 does not accept is refused with 13 or 14.
-use crate::certificate::{self, Certificate, Loss, Position};
+use crate::certificate::{self, Certificate, List, Loss, Position};
+use crate::game::Game;
 use crate::model::{Edge, Side, Task};
 use crate::setting::{Answer, Setting};
 use crate::task::Refusal;
@@ -10,23 +11,23 @@ use std::collections::{BTreeMap, BTreeSet};
 
 /// The explanation of a certificate of this task.
 pub fn explain(task: &Task, bytes: &[u8]) -> Result<String, Refusal> {
-    let certificate = certificate::read(task, bytes)?;
-    let positions: Vec<Position> = match &certificate {
-        Certificate::Equal(kept) => kept.iter().map(|record| record.1).collect(),
-        Certificate::Differ(losses) => losses.iter().map(|loss| loss.position).collect(),
+    let Certificate { game, list } = certificate::read(task, bytes)?;
+    let positions: Vec<Position> = match &list {
+        List::Kept(kept) => kept.iter().map(|record| record.1).collect(),
+        List::Lost(losses) => losses.iter().map(|loss| loss.position).collect(),
     };
     if positions.binary_search(&Position::start(task)).is_err() {
         return refused(0, "expected the start position among the records");
     }
-    match certificate {
-        Certificate::Equal(kept) => {
-            check_kept(task, &kept, &positions)?;
-            Ok(words::equal(kept.len()))
+    match list {
+        List::Kept(kept) => {
+            check_kept(task, game, &kept, &positions)?;
+            Ok(words::kept(game, kept.len()))
         }
-        Certificate::Differ(losses) => {
-            let play = Play { task, losses };
+        List::Lost(losses) => {
+            let play = Play { task, game, losses };
             play.check()?;
-            Ok(words::differ(task, &play.steps()?))
+            Ok(words::lost(task, game, &play.steps()?))
         }
     }
 }
@@ -35,9 +36,10 @@ fn refused<T>(at: usize, words: &str) -> Result<T, Refusal> {
     Err(Refusal::new(14, at, words))
 }
 
-/// Kept positions have equal end marks, and whatever one reader takes, the other can answer into a kept position.
+/// Kept positions are not lost by their end marks, and whatever an attacker takes, the other can answer into a kept position.
 fn check_kept(
     task: &Task,
+    game: Game,
     kept: &[(usize, Position)],
     positions: &[Position],
 ) -> Result<(), Refusal> {
@@ -47,11 +49,13 @@ fn check_kept(
     };
     for (at, position) in kept {
         let setting = Setting::over(task, position);
-        let [left, right] = setting.end_marks(task);
-        if left != right {
-            return refused(*at, "expected a kept position with equal end marks");
+        if game.is_lost_by(setting.end_marks(task)) {
+            return refused(
+                *at,
+                "expected a kept position that its end marks do not lose",
+            );
         }
-        for (side, edge, number) in choices(task, &setting) {
+        for (side, edge, number) in choices(task, game, &setting) {
             let answers = setting.answers(task, side, edge, number);
             if !answers.iter().any(is_kept) {
                 return refused(
@@ -65,9 +69,9 @@ fn check_kept(
 }
 
 /// All that a chooser can name. One number outside the history stands for all of them.
-fn choices<'a>(task: &'a Task, setting: &Setting) -> Vec<(Side, &'a Edge, u32)> {
+fn choices<'a>(task: &'a Task, game: Game, setting: &Setting) -> Vec<(Side, &'a Edge, u32)> {
     let mut choices = Vec::new();
-    for side in Side::BOTH {
+    for &side in game.attackers() {
         for (_, edge) in setting.edges(task, side) {
             let taken = |number: &u32| setting.hindrance(side, edge, *number).is_none();
             let numbers = (1..=setting.seen() + 1).filter(taken);
@@ -79,7 +83,7 @@ fn choices<'a>(task: &'a Task, setting: &Setting) -> Vec<(Side, &'a Edge, u32)> 
 
 /// What happens in a setting of a lost position.
 pub enum Round {
-    /// It is over: these end marks differ.
+    /// It is over: these end marks lose.
     EndMarks([u8; 2]),
     Attack(Attack),
 }
@@ -100,6 +104,7 @@ pub struct Step {
 
 struct Play<'a> {
     task: &'a Task,
+    game: Game,
     losses: Vec<Loss>,
 }
 
@@ -115,13 +120,13 @@ impl Play<'_> {
     fn check(&self) -> Result<(), Refusal> {
         for loss in &self.losses {
             let setting = Setting::over(self.task, &loss.position);
-            let [left, right] = setting.end_marks(self.task);
+            let is_lost = self.game.is_lost_by(setting.end_marks(self.task));
             if loss.rounds > 0 {
                 self.attack(loss, &setting)?;
-            } else if left == right || loss.attack != [0, 0, 0] {
+            } else if !is_lost || loss.attack != [0, 0, 0] {
                 return refused(
                     loss.at,
-                    "expected differing end marks and no attack where rounds are 0",
+                    "expected end marks that lose and no attack where rounds are 0",
                 );
             }
         }
@@ -136,6 +141,9 @@ impl Play<'_> {
             2 => Side::Right,
             _ => return refused(loss.at, "expected side 1 or 2"),
         };
+        if !self.game.attackers().contains(&side) {
+            return refused(loss.at, "expected a side that attacks in this game");
+        }
         let edge = usize::from(place);
         let mut edges = setting.edges(self.task, side);
         let Some((_, taken)) = edges.find(|numbered| numbered.0 == edge) else {
@@ -194,11 +202,11 @@ impl Play<'_> {
         Ok(steps)
     }
 
-    /// A play is over once the end marks differ, even where a record has an attack.
+    /// A play is over once the end marks lose, even where a record has an attack.
     fn round(&self, loss: &Loss, setting: &Setting) -> Result<Round, Refusal> {
-        let [left, right] = setting.end_marks(self.task);
-        if left != right {
-            return Ok(Round::EndMarks([left, right]));
+        let end_marks = setting.end_marks(self.task);
+        if self.game.is_lost_by(end_marks) {
+            return Ok(Round::EndMarks(end_marks));
         }
         self.attack(loss, setting).map(Round::Attack)
     }

@@ -1,22 +1,37 @@
 //! An explanation in words, for people who do not read records.
 use crate::certificate::Position;
 use crate::explain::{Attack, Round, Step};
+use crate::game::Game;
 use crate::model::{EdgeKind, Side, Task};
 use crate::setting::{Answer, Hindrance, Reader, Setting};
 use crate::text;
 use std::collections::BTreeMap;
 
-pub fn equal(kept: usize) -> String {
-    let positions = counted(kept, "position was", "positions were");
+/// What it means that so many positions were kept.
+pub fn kept(game: Game, count: usize) -> String {
+    let kept = counted(count, "position was kept", "positions were kept");
+    match game {
+        Game::Equality => format!(
+            "EQUAL: the readers cannot be told apart, and {kept}.\n{}\n",
+            answered("one reader", "the other")
+        ),
+        Game::OneWay => format!(
+            "FOLLOWS: right takes all that left takes, and {kept}.\n{}\n\
+             Where left has end mark 1 in a kept position, right has it too.\n",
+            answered("left", "right")
+        ),
+    }
+}
+
+fn answered(attacker: &str, other: &str) -> String {
     format!(
-        "EQUAL: the readers cannot be told apart, and {positions} kept.\n\
-         Whatever field and number one reader takes from a kept position, the other can take them too, so that a kept \
-         position follows.\n"
+        "Whatever field and number {attacker} takes from a kept position, {other} can take them too, so that a kept \
+         position follows."
     )
 }
 
 /// The steps of an attack, the start first.
-pub fn differ(task: &Task, steps: &[Step]) -> String {
+pub fn lost(task: &Task, game: Game, steps: &[Step]) -> String {
     let places: BTreeMap<Position, usize> = (0..)
         .zip(steps)
         .map(|(place, step)| (step.setting.position(), place))
@@ -26,7 +41,7 @@ pub fn differ(task: &Task, steps: &[Step]) -> String {
         steps,
         places,
     };
-    let mut text = opening(steps);
+    let mut text = opening(game, steps);
     for (place, step) in steps.iter().enumerate() {
         text += &format!("\nStep {}, {}:\n", place + 1, to_go(step.rounds));
         for line in story.step(step) {
@@ -36,7 +51,7 @@ pub fn differ(task: &Task, steps: &[Step]) -> String {
     text
 }
 
-fn opening(steps: &[Step]) -> String {
+fn opening(game: Game, steps: &[Step]) -> String {
     let Some(first) = steps.first() else {
         return String::new();
     };
@@ -47,8 +62,12 @@ fn opening(steps: &[Step]) -> String {
             counted(rounds as usize, "round", "rounds")
         ),
     };
+    let claim = match game {
+        Game::Equality => "DIFFER: the readers can be told apart",
+        Game::OneWay => "FALLS SHORT: right falls short of left, as left can show",
+    };
     format!(
-        "DIFFER: the readers can be told apart {within}.\nBefore step 1 the numbers 1 to {} have been seen.\n",
+        "{claim} {within}.\nBefore step 1 the numbers 1 to {} have been seen.\n",
         first.setting.seen()
     )
 }

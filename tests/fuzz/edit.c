@@ -2,6 +2,11 @@
 #include "../../include/nuldopa.h"
 #include <string.h>
 
+size_t record_bytes(uint32_t kind)
+{
+    return kind == NULDOPA_EQUAL || kind == NULDOPA_FOLLOWS ? NULDOPA_KEPT_BYTES : NULDOPA_LOST_BYTES;
+}
+
 static size_t drop_record(uint8_t *records, size_t length, size_t bytes, uint32_t number)
 {
     size_t at = number % (length / bytes) * bytes;
@@ -18,9 +23,9 @@ static void step_byte(uint8_t *records, size_t length, size_t bytes, uint32_t nu
 
 size_t edit_certificate(uint8_t *certificate, size_t length, uint32_t number)
 {
-    size_t bytes = length > 0 && certificate[0] == NULDOPA_EQUAL ? NULDOPA_KEPT_BYTES : NULDOPA_LOST_BYTES;
-    if (length < bytes)
+    if (length == 0 || length < record_bytes(certificate[0]))
         return length;
+    size_t bytes = record_bytes(certificate[0]);
     if (number % 4 == 0)
         return drop_record(certificate, length, bytes, number / 4);
     step_byte(certificate, length, bytes, number / 4);

@@ -1,24 +1,51 @@
 /* A library with a fault, for `tests/fuzz/faults`: the linker puts these functions in the place of the library's, and the
- * environment says what they do wrong before or after they call the true ones. */
+ * environment says what they do wrong before or after they call the true ones, and in which game. */
 #include "../../include/nuldopa.h"
+#include "edit.h"
 #include <stdlib.h>
 #include <string.h>
 
-struct nuldopa_answer __real_nuldopa_compare(const uint8_t *task, size_t task_length, uint8_t *table, size_t table_length,
-                                             uint8_t *certificate, size_t certificate_length);
-struct nuldopa_answer __real_nuldopa_check(const uint8_t *task, size_t task_length, const uint8_t *certificate,
-                                           size_t certificate_length);
-struct nuldopa_answer __wrap_nuldopa_compare(const uint8_t *task, size_t task_length, uint8_t *table, size_t table_length,
-                                             uint8_t *certificate, size_t certificate_length);
-struct nuldopa_answer __wrap_nuldopa_check(const uint8_t *task, size_t task_length, const uint8_t *certificate,
-                                           size_t certificate_length);
+nuldopa_compare_function __real_nuldopa_compare, __wrap_nuldopa_compare;
+nuldopa_compare_function __real_nuldopa_compare_one_way, __wrap_nuldopa_compare_one_way;
+nuldopa_check_function __real_nuldopa_check, __wrap_nuldopa_check;
+nuldopa_check_function __real_nuldopa_check_one_way, __wrap_nuldopa_check_one_way;
+
+/* A game's true functions, and the verdict that keeps the start. */
+struct game {
+    const char *name;
+    nuldopa_compare_function *compare;
+    nuldopa_check_function *check;
+    uint8_t kept;
+};
+static const struct game equality = {"equality", __real_nuldopa_compare, __real_nuldopa_check, NULDOPA_EQUAL};
+static const struct game one_way = {"one-way", __real_nuldopa_compare_one_way, __real_nuldopa_check_one_way,
+                                    NULDOPA_FOLLOWS};
 
 static volatile uint8_t sink;
 
+/* The game of the call that is being altered. */
+static const struct game *game;
+
+static int environment_is(const char *variable, const char *value)
+{
+    const char *said = getenv(variable);
+    return said != NULL && strcmp(said, value) == 0;
+}
+
 static uint32_t fault_is(const char *name)
 {
-    const char *fault = getenv("NULDOPA_FAULT");
-    return fault != NULL && strcmp(fault, name) == 0;
+    return environment_is("NULDOPA_FAULTY_GAME", game->name) && environment_is("NULDOPA_FAULT", name);
+}
+
+static const struct game *other_game(void)
+{
+    return game == &equality ? &one_way : &equality;
+}
+
+/* A verdict or kind of the other game as this one's. */
+static uint8_t own_kind(uint32_t kind)
+{
+    return (uint8_t)(kind - other_game()->kept + game->kept);
 }
 
 /* What is returned. */
@@ -66,7 +93,7 @@ static void spoil_certificate(struct nuldopa_answer a, uint8_t *certificate, siz
         certificate[a.length]++;
     if (fault_is("another position listed") && a.refusal == 0)
         certificate[1]++;
-    if (fault_is("another attack") && a.verdict == NULDOPA_DIFFER)
+    if (fault_is("another attack") && a.refusal == 0 && record_bytes(a.verdict) == NULDOPA_LOST_BYTES)
         certificate[10]++;
     if (fault_is("buffer written before its start"))
         certificate[-1]++;
@@ -84,27 +111,53 @@ static void spoil_task(uint8_t *task, size_t length)
         task[0]++;
 }
 
-struct nuldopa_answer __wrap_nuldopa_compare(const uint8_t *task, size_t task_length, uint8_t *table, size_t table_length,
-                                             uint8_t *certificate, size_t certificate_length)
+/* What the other game gives, with the verdict and the kinds of this one. */
+static struct nuldopa_answer compared_by_other(const uint8_t *task, size_t task_length, uint8_t *table, size_t table_length,
+                                               uint8_t *certificate, size_t certificate_length)
 {
+    struct nuldopa_answer a =
+        other_game()->compare(task, task_length, table, table_length, certificate, certificate_length);
+    if (a.refusal != 0)
+        return a;
+    for (size_t at = 0; at < a.length; at += record_bytes(a.verdict))
+        certificate[at] = own_kind(certificate[at]);
+    a.verdict = own_kind(a.verdict);
+    return a;
+}
+
+static struct nuldopa_answer faulty_compare(const uint8_t *task, size_t task_length, uint8_t *table, size_t table_length,
+                                            uint8_t *certificate, size_t certificate_length)
+{
+    nuldopa_compare_function *compare = fault_is("compared by the other game") ? compared_by_other : game->compare;
     if (fault_is("what the table held counts") && table_length > 0 && table[0] == 0x5a)
         task_length = 0;
-    struct nuldopa_answer a =
-        __real_nuldopa_compare(task, task_length, table, table_length, certificate, certificate_length);
+    struct nuldopa_answer a = compare(task, task_length, table, table_length, certificate, certificate_length);
     spoil_task((uint8_t *)(uintptr_t)task, task_length);
     spoil_table(a, table, table_length);
     spoil_certificate(a, certificate, certificate_length);
     return altered(a);
 }
 
-struct nuldopa_answer __wrap_nuldopa_check(const uint8_t *task, size_t task_length, const uint8_t *certificate,
-                                           size_t certificate_length)
+/* What is accepted. */
+static struct nuldopa_answer misjudged(struct nuldopa_answer a, const uint8_t *task, size_t task_length,
+                                       const uint8_t *certificate, size_t certificate_length)
 {
-    struct nuldopa_answer a = __real_nuldopa_check(task, task_length, certificate, certificate_length);
     if (fault_is("all certificates accepted") && a.refusal == NULDOPA_CERTIFICATE_NOT_ACCEPTED)
-        a = (struct nuldopa_answer){0, NULDOPA_EQUAL, 0, 0, 0};
+        a = (struct nuldopa_answer){0, game->kept, 0, 0, 0};
     if (fault_is("no certificate accepted") && a.refusal == 0)
         a = nuldopa_refused(NULDOPA_CERTIFICATE_NOT_ACCEPTED);
+    if (fault_is("the other game's kinds accepted") && a.refusal == NULDOPA_CERTIFICATE_ILL_FORMED) {
+        a = other_game()->check(task, task_length, certificate, certificate_length);
+        a.verdict = a.refusal == 0 ? own_kind(a.verdict) : 0;
+    }
+    return a;
+}
+
+static struct nuldopa_answer faulty_check(const uint8_t *task, size_t task_length, const uint8_t *certificate,
+                                          size_t certificate_length)
+{
+    struct nuldopa_answer a = game->check(task, task_length, certificate, certificate_length);
+    a = misjudged(a, task, task_length, certificate, certificate_length);
     if (fault_is("accepted with fewer rounds") && a.rounds > 0)
         a.rounds--;
     if (fault_is("accepted with a length") && a.refusal == 0)
@@ -117,3 +170,23 @@ struct nuldopa_answer __wrap_nuldopa_check(const uint8_t *task, size_t task_leng
         ((uint8_t *)(uintptr_t)certificate)[0]++;
     return a;
 }
+
+#define WRAPPED_COMPARE(name, its_game) \
+    struct nuldopa_answer name(const uint8_t *task, size_t task_length, uint8_t *table, size_t table_length, \
+                               uint8_t *certificate, size_t certificate_length) \
+    { \
+        game = &its_game; \
+        return faulty_compare(task, task_length, table, table_length, certificate, certificate_length); \
+    }
+WRAPPED_COMPARE(__wrap_nuldopa_compare, equality)
+WRAPPED_COMPARE(__wrap_nuldopa_compare_one_way, one_way)
+
+#define WRAPPED_CHECK(name, its_game) \
+    struct nuldopa_answer name(const uint8_t *task, size_t task_length, const uint8_t *certificate, \
+                               size_t certificate_length) \
+    { \
+        game = &its_game; \
+        return faulty_check(task, task_length, certificate, certificate_length); \
+    }
+WRAPPED_CHECK(__wrap_nuldopa_check, equality)
+WRAPPED_CHECK(__wrap_nuldopa_check_one_way, one_way)

@@ -1,9 +1,10 @@
-/* What 01 fixes of every answer and of every byte lent, checked on the inputs that libFuzzer makes (`input.h`). What is not
- * so ends the program, and libFuzzer keeps the input.
+/* What 01 and 02 fix of every answer and of every byte lent, checked on the inputs that libFuzzer makes (`input.h`). What is
+ * not so ends the program, and libFuzzer keeps the input.
  *
- * The comparer is called twice: with as much as `compare` lends, and with what the input chooses. The first answer
- * determines the second. The checker is asked about the certificate that was written, and about one a little different. In
- * the other mode it is asked about the input's certificate. What it accepts is compared with the comparer's verdict. */
+ * The comparer of each game is called twice: with as much as `compare` lends, and with what the input chooses. The first
+ * answer determines the second. The checker is asked about the certificate that was written, and about one a little
+ * different. In the other mode it is asked about the input's certificate. What it accepts is compared with the comparer's
+ * verdict. And the answers of the two games are compared. */
 #include "../../include/nuldopa.h"
 #include "edit.h"
 #include "input.h"
@@ -30,34 +31,61 @@ static void must(int holds, const char *what, int line)
 }
 #define MUST(condition) must((condition) != 0, #condition, __LINE__)
 
-/* For libFuzzer: an input that brings an outcome not seen before is worth keeping. Counts of positions, of records and of
- * rounds too many stand by their binary digits. */
 enum { REFUSALS = 16, DIGITS = 33, ROUNDS = 64, CASES = 9, EDGES = 64 };
-static volatile struct {
+
+/* For libFuzzer: an input that brings an outcome of a game not seen before is worth keeping. Counts of positions, of records
+ * and of rounds too many stand by their binary digits. */
+struct outcomes {
     uint8_t compared[REFUSALS];
     uint8_t checked[REFUSALS][DIGITS];  /* by records */
-    uint8_t equal[DIGITS][DIGITS];      /* by positions and records */
-    uint8_t differ[ROUNDS][DIGITS];     /* by positions */
+    uint8_t kept[DIGITS][DIGITS];       /* by positions and records */
+    uint8_t lost[ROUNDS][DIGITS];       /* by positions */
     uint8_t attacks[2][EDGES][CASES];   /* in certificates */
     uint8_t accepted[REFUSALS][DIGITS]; /* by what the comparer then answers, and rounds too many */
-} outcomes __attribute__((section("__libfuzzer_extra_counters")));
+};
+static volatile struct outcomes outcomes[2] __attribute__((section("__libfuzzer_extra_counters")));
 
 /* For people: how often the comparer gave a verdict, the checker accepted a proposal (both at 0), and each refusal. */
-static unsigned long compared[REFUSALS], proposed[REFUSALS];
+struct totals {
+    unsigned long compared[REFUSALS], proposed[REFUSALS];
+};
+static struct totals totals[2];
 
-static void print_totals(const char *which, const unsigned long *totals)
+/* A game: its functions, its verdicts, the last side that attacks, and what has been seen of it. */
+struct game {
+    const char *name;
+    nuldopa_compare_function *compare;
+    nuldopa_check_function *check;
+    uint32_t kept, lost;
+    uint8_t last_side;
+    volatile struct outcomes *outcomes;
+    struct totals *totals;
+};
+static const struct game equality = {
+    "both sides attack", nuldopa_compare, nuldopa_check, NULDOPA_EQUAL, NULDOPA_DIFFER, 2, &outcomes[0], &totals[0]};
+static const struct game one_way = {
+    "one-way", nuldopa_compare_one_way, nuldopa_check_one_way, NULDOPA_FOLLOWS, NULDOPA_FALLS_SHORT, 1, &outcomes[1],
+    &totals[1]};
+
+static void print_counts(const char *name, const char *which, const unsigned long *counts)
 {
-    fprintf(stderr, "fuzz: %s: %lu", which, totals[0]);
+    fprintf(stderr, "fuzz: %s, %s: %lu", name, which, counts[0]);
     for (int refusal = 1; refusal < REFUSALS; refusal++)
-        if (totals[refusal] > 0)
-            fprintf(stderr, ", refusal %d: %lu", refusal, totals[refusal]);
+        if (counts[refusal] > 0)
+            fprintf(stderr, ", refusal %d: %lu", refusal, counts[refusal]);
     fprintf(stderr, "\n");
+}
+
+static void report_game(const struct game *game)
+{
+    print_counts(game->name, "verdicts", game->totals->compared);
+    print_counts(game->name, "proposals accepted", game->totals->proposed);
 }
 
 static void report(void)
 {
-    print_totals("verdicts", compared);
-    print_totals("proposals accepted", proposed);
+    report_game(&equality);
+    report_game(&one_way);
 }
 
 static void seen(volatile uint8_t *counter)
@@ -74,14 +102,18 @@ static size_t binary_digits(size_t number)
     return digits;
 }
 
-/* A call of the comparer, with what it was lent. */
+/* A call of a game's comparer, with what it was lent. */
 struct comparison {
+    const struct game *game;
     struct lent task, table, certificate;
     uint8_t fill;
     struct nuldopa_answer answer;
 };
 
-static struct comparison whole = {.fill = 0xa5}, chosen = {.fill = 0x5a};
+/* The whole comparison of each game; the chosen one is that of the game whose turn it is. */
+static struct comparison whole_equality = {.game = &equality, .fill = 0xa5};
+static struct comparison whole_one_way = {.game = &one_way, .fill = 0xa5};
+static struct comparison chosen = {.fill = 0x5a};
 
 /* A call of the checker likewise. */
 struct check {
@@ -106,14 +138,14 @@ static uint32_t entry_rounds(const struct comparison *c, size_t number)
     return rounds_at(entry(c, number) + POSITION_BYTES);
 }
 
-static size_t record_bytes(uint32_t verdict)
-{
-    return verdict == NULDOPA_EQUAL ? NULDOPA_KEPT_BYTES : NULDOPA_LOST_BYTES;
-}
-
 static uint32_t record_rounds(const uint8_t *record)
 {
-    return record[0] == NULDOPA_EQUAL ? never_lost : rounds_at(record + 12);
+    return record_bytes(record[0]) == NULDOPA_KEPT_BYTES ? never_lost : rounds_at(record + 12);
+}
+
+static int is_kept(const struct comparison *c)
+{
+    return c->answer.verdict == c->game->kept;
 }
 
 static int only_refusal(struct nuldopa_answer a)
@@ -153,31 +185,32 @@ static void expect_table(const struct comparison *c)
     MUST(all_are(c->table.bytes + filled, c->table.length - filled, 0));
 }
 
-/* From an entry on, the one of the record's position. EQUAL lists every position never lost, so it passes over none. */
+/* From an entry on, the one of the record's position. Where the start is kept every position never lost is listed, so it
+ * passes over none. */
 static size_t entry_listed(const struct comparison *c, size_t number, const uint8_t *record)
 {
     while (number < c->answer.positions && memcmp(entry(c, number), record + 1, POSITION_BYTES) != 0) {
-        MUST(c->answer.verdict != NULDOPA_EQUAL || entry_rounds(c, number) != never_lost);
+        MUST(!is_kept(c) || entry_rounds(c, number) != never_lost);
         number++;
     }
     MUST(number < c->answer.positions);
     return number;
 }
 
-/* Side, edge and case are 0 in rounds 0; otherwise each exists. */
-static void expect_attack(const uint8_t *record)
+/* Side, edge and case are 0 in rounds 0; otherwise each exists, and the side attacks in this game. */
+static void expect_attack(const struct game *game, const uint8_t *record)
 {
     if (record_rounds(record) == 0) {
         MUST(all_are(record + 9, 3, 0));
     } else {
-        MUST(record[9] == 1 || record[9] == 2);
+        MUST(record[9] >= 1 && record[9] <= game->last_side);
         MUST(record[10] < EDGES);
         MUST(record[11] < CASES);
-        seen(&outcomes.attacks[record[9] - 1][record[10]][record[11]]);
+        seen(&game->outcomes->attacks[record[9] - 1][record[10]][record[11]]);
     }
 }
 
-/* Records of the verdict's kind, rising, with the rounds of the table. Of DIFFER only the start has the answer's rounds,
+/* Records of the verdict's kind, rising, with the rounds of the table. Of lost ones only the start has the answer's rounds,
  * since attacks lead to fewer. */
 static void expect_records(const struct comparison *c)
 {
@@ -186,16 +219,16 @@ static void expect_records(const struct comparison *c)
         MUST(record[0] == c->answer.verdict);
         number = entry_listed(c, number, record);
         MUST(record_rounds(record) == entry_rounds(c, number));
-        if (c->answer.verdict == NULDOPA_DIFFER) {
-            expect_attack(record);
+        if (!is_kept(c)) {
+            expect_attack(c->game, record);
             MUST(record_rounds(record) <= c->answer.rounds);
             with_answer += record_rounds(record) == c->answer.rounds;
         }
         number++;
     }
     for (; number < c->answer.positions; number++)
-        MUST(c->answer.verdict != NULDOPA_EQUAL || entry_rounds(c, number) != never_lost);
-    MUST(with_answer == (c->answer.verdict == NULDOPA_DIFFER));
+        MUST(!is_kept(c) || entry_rounds(c, number) != never_lost);
+    MUST(with_answer == !is_kept(c));
 }
 
 static void expect_certificate(const struct comparison *c)
@@ -207,32 +240,33 @@ static void expect_certificate(const struct comparison *c)
     expect_records(c);
 }
 
-static void seen_verdict(struct nuldopa_answer a)
+static void seen_verdict(const struct comparison *c)
 {
+    struct nuldopa_answer a = c->answer;
     size_t positions = binary_digits(a.positions), records = binary_digits(a.length / record_bytes(a.verdict));
-    if (a.verdict == NULDOPA_EQUAL)
-        seen(&outcomes.equal[positions][records]);
+    if (is_kept(c))
+        seen(&c->game->outcomes->kept[positions][records]);
     else
-        seen(&outcomes.differ[a.rounds < ROUNDS ? a.rounds : ROUNDS - 1][positions]);
+        seen(&c->game->outcomes->lost[a.rounds < ROUNDS ? a.rounds : ROUNDS - 1][positions]);
 }
 
 static void expect_verdict(const struct comparison *c)
 {
-    int differ = c->answer.verdict == NULDOPA_DIFFER;
-    MUST(differ || c->answer.verdict == NULDOPA_EQUAL);
-    MUST(differ ? c->answer.rounds <= c->answer.positions : c->answer.rounds == 0);
+    MUST(is_kept(c) || c->answer.verdict == c->game->lost);
+    MUST(is_kept(c) ? c->answer.rounds == 0 : c->answer.rounds <= c->answer.positions);
     expect_table(c);
     expect_certificate(c);
-    seen_verdict(c->answer);
+    seen_verdict(c);
 }
 
 static void compare(struct comparison *c, const struct input *input, enum edge edge, size_t table, size_t certificate)
 {
+    const struct game *game = c->game;
     lent_copied(&c->task, edge, input->task, input->task_length);
     lent_filled(&c->table, edge, table, c->fill);
     lent_filled(&c->certificate, edge, certificate, c->fill);
-    c->answer = nuldopa_compare(c->task.bytes, c->task.length, c->table.bytes, c->table.length, c->certificate.bytes,
-                                c->certificate.length);
+    c->answer = game->compare(c->task.bytes, c->task.length, c->table.bytes, c->table.length, c->certificate.bytes,
+                              c->certificate.length);
     MUST(is_as_lent(&c->task, input->task));
     MUST(lent_guards_hold(&c->table));
     MUST(lent_guards_hold(&c->certificate));
@@ -240,16 +274,16 @@ static void compare(struct comparison *c, const struct input *input, enum edge e
         expect_refusal(c);
     else
         expect_verdict(c);
-    seen(&outcomes.compared[c->answer.refusal]);
-    compared[c->answer.refusal]++;
+    seen(&game->outcomes->compared[c->answer.refusal]);
+    game->totals->compared[c->answer.refusal]++;
 }
 
 /* Acceptance has a verdict and rounds, a refusal nothing but its number; 11 and 12 are not given. */
-static void expect_checked(struct nuldopa_answer a)
+static void expect_checked(const struct game *game, struct nuldopa_answer a)
 {
     if (a.refusal == 0) {
-        MUST(a.verdict == NULDOPA_EQUAL || a.verdict == NULDOPA_DIFFER);
-        MUST(a.verdict == NULDOPA_DIFFER || a.rounds == 0);
+        MUST(a.verdict == game->kept || a.verdict == game->lost);
+        MUST(a.verdict == game->lost || a.rounds == 0);
         MUST(a.positions == 0 && a.length == 0);
     } else {
         MUST(only_refusal(a));
@@ -258,77 +292,84 @@ static void expect_checked(struct nuldopa_answer a)
     }
 }
 
-static struct nuldopa_answer checked(const struct input *input, const uint8_t *certificate, size_t length)
+static struct nuldopa_answer checked(const struct game *game, const struct input *input, const uint8_t *certificate,
+                                     size_t length)
 {
     lent_copied(&check.task, input->edge, input->task, input->task_length);
     lent_copied(&check.certificate, input->edge, certificate, length);
-    check.answer = nuldopa_check(check.task.bytes, check.task.length, check.certificate.bytes, check.certificate.length);
+    check.answer = game->check(check.task.bytes, check.task.length, check.certificate.bytes, check.certificate.length);
     MUST(is_as_lent(&check.task, input->task));
     MUST(is_as_lent(&check.certificate, certificate));
-    expect_checked(check.answer);
-    seen(&outcomes.checked[check.answer.refusal][binary_digits(length / NULDOPA_KEPT_BYTES)]);
+    expect_checked(game, check.answer);
+    seen(&game->outcomes->checked[check.answer.refusal][binary_digits(length / NULDOPA_KEPT_BYTES)]);
     return check.answer;
 }
 
-static void compare_whole(const struct input *input)
+static void compare_whole(struct comparison *whole, const struct input *input)
 {
-    compare(&whole, input, AT_END, WHOLE_TABLE, WHOLE_CERTIFICATE);
-    MUST(whole.answer.refusal != NULDOPA_BUFFER_TOO_SMALL);
+    compare(whole, input, AT_END, WHOLE_TABLE, WHOLE_CERTIFICATE);
+    MUST(whole->answer.refusal != NULDOPA_BUFFER_TOO_SMALL);
 }
 
-/* The checker accepts what the comparer wrote, with the same verdict and rounds; cut by a byte it meets 13. */
-static void check_own(const struct input *input)
+/* The game's checker accepts what its comparer wrote, with the same verdict and rounds; cut by a byte it meets 13, and so it
+ * does in the other game. */
+static void check_own(const struct comparison *whole, const struct input *input)
 {
-    struct nuldopa_answer own = checked(input, whole.certificate.bytes, whole.answer.length);
+    const struct game *other = whole->game == &equality ? &one_way : &equality;
+    struct nuldopa_answer own = checked(whole->game, input, whole->certificate.bytes, whole->answer.length);
     MUST(own.refusal == 0);
-    MUST(own.verdict == whole.answer.verdict);
-    MUST(own.rounds == whole.answer.rounds);
-    own = checked(input, whole.certificate.bytes, whole.answer.length - 1);
+    MUST(own.verdict == whole->answer.verdict);
+    MUST(own.rounds == whole->answer.rounds);
+    own = checked(whole->game, input, whole->certificate.bytes, whole->answer.length - 1);
+    MUST(own.refusal == NULDOPA_CERTIFICATE_ILL_FORMED);
+    own = checked(other, input, whole->certificate.bytes, whole->answer.length);
     MUST(own.refusal == NULDOPA_CERTIFICATE_ILL_FORMED);
 }
 
 /* The checker refuses a task for the comparer's reason; an empty certificate meets 14. */
-static void check_empty(const struct input *input)
+static void check_empty(const struct comparison *whole, const struct input *input)
 {
-    uint32_t refusal = whole.answer.refusal;
+    uint32_t refusal = whole->answer.refusal;
     int read = refusal == 0 || refusal > NULDOPA_BAD_PAIR;
-    MUST(checked(input, input->task, 0).refusal == (read ? NULDOPA_CERTIFICATE_NOT_ACCEPTED : refusal));
+    MUST(checked(whole->game, input, input->task, 0).refusal == (read ? NULDOPA_CERTIFICATE_NOT_ACCEPTED : refusal));
 }
 
 /* What is refused with these sizes, by what the whole comparison needed. */
-static uint32_t refusal_with(size_t table, size_t certificate)
+static uint32_t refusal_with(const struct comparison *whole, size_t table, size_t certificate)
 {
-    if (whole.answer.refusal != 0)
-        return whole.answer.refusal;
-    if (table / NULDOPA_ENTRY_BYTES < whole.answer.positions)
+    if (whole->answer.refusal != 0)
+        return whole->answer.refusal;
+    if (table / NULDOPA_ENTRY_BYTES < whole->answer.positions)
         return NULDOPA_TABLE_TOO_SMALL;
-    return certificate < whole.answer.length ? NULDOPA_BUFFER_TOO_SMALL : 0;
+    return certificate < whole->answer.length ? NULDOPA_BUFFER_TOO_SMALL : 0;
 }
 
 /* Neither the sizes nor what the buffers held before have any influence on a verdict. */
-static void compare_chosen(const struct input *input)
+static void compare_chosen(const struct comparison *whole, const struct input *input)
 {
-    size_t needed = whole.answer.positions * (size_t)NULDOPA_ENTRY_BYTES;
+    size_t needed = whole->answer.positions * (size_t)NULDOPA_ENTRY_BYTES;
     size_t table = chosen_size(input->table_choice, needed);
-    size_t certificate = chosen_size(input->certificate_choice, whole.answer.length);
+    size_t certificate = chosen_size(input->certificate_choice, whole->answer.length);
+    chosen.game = whole->game;
     compare(&chosen, input, input->edge, table, certificate);
-    MUST(chosen.answer.refusal == refusal_with(table, certificate));
+    MUST(chosen.answer.refusal == refusal_with(whole, table, certificate));
     if (chosen.answer.refusal == 0) {
-        MUST(same_answer(chosen.answer, whole.answer));
-        MUST(memcmp(chosen.table.bytes, whole.table.bytes, needed) == 0);
-        MUST(memcmp(chosen.certificate.bytes, whole.certificate.bytes, whole.answer.length) == 0);
+        MUST(same_answer(chosen.answer, whole->answer));
+        MUST(memcmp(chosen.table.bytes, whole->table.bytes, needed) == 0);
+        MUST(memcmp(chosen.certificate.bytes, whole->certificate.bytes, whole->answer.length) == 0);
     }
 }
 
 /* The comparer agrees with what was accepted, in no more rounds, unless the positions outnumber its entries. */
-static void expect_agreement(struct nuldopa_answer accepted)
+static void expect_agreement(const struct comparison *whole, struct nuldopa_answer accepted)
 {
-    MUST(whole.answer.refusal == 0 || whole.answer.refusal == NULDOPA_TABLE_TOO_SMALL);
-    if (whole.answer.refusal == 0) {
-        MUST(whole.answer.verdict == accepted.verdict);
-        MUST(whole.answer.rounds <= accepted.rounds);
+    struct nuldopa_answer answer = whole->answer;
+    MUST(answer.refusal == 0 || answer.refusal == NULDOPA_TABLE_TOO_SMALL);
+    if (answer.refusal == 0) {
+        MUST(answer.verdict == accepted.verdict);
+        MUST(answer.rounds <= accepted.rounds);
     }
-    seen(&outcomes.accepted[whole.answer.refusal][binary_digits(accepted.rounds - whole.answer.rounds)]);
+    seen(&whole->game->outcomes->accepted[answer.refusal][binary_digits(accepted.rounds - answer.rounds)]);
 }
 
 /* A number that depends on every byte of the task (FNV-1a). */
@@ -341,41 +382,67 @@ static uint32_t number_of(const struct input *input)
 }
 
 /* The certificate that the comparer wrote, with a change that follows from the task. */
-static void check_edited(const struct input *input)
+static void check_edited(const struct comparison *whole, const struct input *input)
 {
     static uint8_t edited[WHOLE_CERTIFICATE];
-    memcpy(edited, whole.certificate.bytes, whole.answer.length);
-    size_t length = edit_certificate(edited, whole.answer.length, number_of(input));
-    struct nuldopa_answer answer = checked(input, edited, length);
-    proposed[answer.refusal]++;
+    memcpy(edited, whole->certificate.bytes, whole->answer.length);
+    size_t length = edit_certificate(edited, whole->answer.length, number_of(input));
+    struct nuldopa_answer answer = checked(whole->game, input, edited, length);
+    whole->game->totals->proposed[answer.refusal]++;
     if (answer.refusal == 0)
-        expect_agreement(answer);
+        expect_agreement(whole, answer);
     else
         MUST(answer.refusal >= NULDOPA_CERTIFICATE_ILL_FORMED);
 }
 
-static void try_comparer(const struct input *input)
+static void try_comparer(struct comparison *whole, const struct input *input)
 {
-    compare_whole(input);
-    compare_chosen(input);
-    check_empty(input);
-    if (whole.answer.refusal == 0) {
-        check_own(input);
-        check_edited(input);
+    compare_whole(whole, input);
+    compare_chosen(whole, input);
+    check_empty(whole, input);
+    if (whole->answer.refusal == 0) {
+        check_own(whole, input);
+        check_edited(whole, input);
     }
 }
 
-static void try_checker(const struct input *input)
+/* Both games read the same tasks and reach the same positions. Who attacks on one side alone, and wins by fewer end marks,
+ * needs at least as many rounds. So EQUAL gives FOLLOWS. */
+static void expect_games_agree(void)
 {
-    struct nuldopa_answer answer = checked(input, input->proposed, input->proposed_length);
-    proposed[answer.refusal]++;
+    const struct comparison *both = &whole_equality, *left = &whole_one_way;
+    MUST(left->answer.refusal == both->answer.refusal);
+    MUST(left->answer.positions == both->answer.positions);
+    for (size_t i = 0; i < left->answer.positions; i++) {
+        MUST(memcmp(entry(left, i), entry(both, i), POSITION_BYTES) == 0);
+        MUST(entry_rounds(left, i) >= entry_rounds(both, i));
+    }
+    MUST(both->answer.verdict != NULDOPA_EQUAL || left->answer.verdict == NULDOPA_FOLLOWS);
+}
+
+/* The refusal of the input's certificate, or 0. */
+static uint32_t try_checker(struct comparison *whole, const struct input *input)
+{
+    struct nuldopa_answer answer = checked(whole->game, input, input->proposed, input->proposed_length);
+    whole->game->totals->proposed[answer.refusal]++;
     if (answer.refusal > NULDOPA_BAD_PAIR)
-        return;
-    compare_whole(input);
+        return answer.refusal;
+    compare_whole(whole, input);
     if (answer.refusal == 0)
-        expect_agreement(answer);
+        expect_agreement(whole, answer);
     else
-        MUST(whole.answer.refusal == answer.refusal);
+        MUST(whole->answer.refusal == answer.refusal);
+    return answer.refusal;
+}
+
+/* No kind belongs to both games, so one of them meets 13 unless the task is refused or there is no record. */
+static void expect_one_game(const struct input *input, uint32_t refusal, uint32_t refusal_one_way)
+{
+    int read = refusal == 0 || refusal > NULDOPA_BAD_PAIR;
+    if (read && input->proposed_length > 0)
+        MUST(refusal == NULDOPA_CERTIFICATE_ILL_FORMED || refusal_one_way == NULDOPA_CERTIFICATE_ILL_FORMED);
+    else
+        MUST(refusal == refusal_one_way);
 }
 
 static void open_comparison(struct comparison *c)
@@ -391,7 +458,8 @@ int LLVMFuzzerTestOneInput(const uint8_t *bytes, size_t length);
 int LLVMFuzzerInitialize(int *count, char ***arguments)
 {
     (void)count;
-    open_comparison(&whole);
+    open_comparison(&whole_equality);
+    open_comparison(&whole_one_way);
     open_comparison(&chosen);
     lent_open(&check.task, MOST_INPUT_BYTES);
     lent_open(&check.certificate, WHOLE_CERTIFICATE);
@@ -405,9 +473,13 @@ int LLVMFuzzerTestOneInput(const uint8_t *bytes, size_t length)
     struct input input;
     if (length > MOST_INPUT_BYTES || !input_read(&input, bytes, length))
         return 0;
-    if (input.calls_checker)
-        try_checker(&input);
-    else
-        try_comparer(&input);
+    if (input.calls_checker) {
+        uint32_t refusal = try_checker(&whole_equality, &input);
+        expect_one_game(&input, refusal, try_checker(&whole_one_way, &input));
+    } else {
+        try_comparer(&whole_equality, &input);
+        try_comparer(&whole_one_way, &input);
+        expect_games_agree();
+    }
     return 0;
 }

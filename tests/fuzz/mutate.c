@@ -18,6 +18,7 @@ enum {
     PAIR = 4,
     END = 15,
     EDGE_BODY = 5,
+    KINDS = 4, /* of certificate records */
     MOST_TASK_BYTES = 923
 };
 
@@ -208,8 +209,8 @@ static int by_kept(const void *a, const void *b)
 static void mend_certificate(struct input *input)
 {
     static uint8_t records[MOST_INPUT_BYTES];
-    uint8_t kind = input->proposed_length > 0 && input->proposed[0] % 2 == 0 ? NULDOPA_EQUAL : NULDOPA_DIFFER;
-    size_t bytes = kind == NULDOPA_EQUAL ? NULDOPA_KEPT_BYTES : NULDOPA_LOST_BYTES;
+    uint8_t kind = (uint8_t)(NULDOPA_EQUAL + (input->proposed_length > 0 ? input->proposed[0] % KINDS : 0));
+    size_t bytes = record_bytes(kind);
     size_t count = input->proposed_length / bytes, kept = 0;
     memcpy(records, input->proposed, count * bytes);
     for (size_t i = 0; i < count; i++)

@@ -1,5 +1,5 @@
-/* seeds FOLDER TASK...: writes inputs of the fuzzer into the folder, two for each task file: one for the comparer, its lent
- * sizes by turns exact, near what is needed and small; and one for the checker, with the comparer's own certificate. */
+/* seeds FOLDER TASK...: writes inputs of the fuzzer into the folder, three for each task file: one for the comparers, its
+ * lent sizes by turns exact, near what is needed and small; and for the checkers one with each comparer's certificate. */
 #include "../../include/nuldopa.h"
 #include "input.h"
 #include <stdio.h>
@@ -23,13 +23,13 @@ static size_t read_file(const char *name)
 }
 
 /* An input that is too long is left out. */
-static void write_input(const char *folder, int number, const struct input *input)
+static void write_input(const char *folder, int number, const char *what, const struct input *input)
 {
     char name[4096];
     size_t length = input_write(input, bytes, sizeof bytes);
     if (length == 0)
         return;
-    snprintf(name, sizeof name, "%s/%05d-%s", folder, number, input->calls_checker ? "check" : "compare");
+    snprintf(name, sizeof name, "%s/%05d-%s", folder, number, what);
     FILE *file = fopen(name, "wb");
     if (file == NULL || fwrite(bytes, 1, length, file) != length || fclose(file) != 0) {
         perror(name);
@@ -43,18 +43,25 @@ static unsigned choice(int number)
                            : (unsigned)(number % 3 == 1 ? CHOICE_OF_NEEDED : 0) + (unsigned)number * 7;
 }
 
-static void write_inputs(const char *folder, int number, size_t task_length)
+static void write_checked(const char *folder, int number, const char *what, struct input *input,
+                          nuldopa_compare_function *compare)
 {
     struct nuldopa_answer answer =
-        nuldopa_compare(task, task_length, table, sizeof table, certificate, sizeof certificate);
+        compare(task, input->task_length, table, sizeof table, certificate, sizeof certificate);
+    input->proposed = certificate;
+    input->proposed_length = answer.length;
+    write_input(folder, number, what, input);
+}
+
+static void write_inputs(const char *folder, int number, size_t task_length)
+{
     struct input input = {.edge = number % 2 == 0 ? AT_END : AT_START, .task = task, .task_length = task_length};
     input.table_choice = choice(number);
     input.certificate_choice = choice(number / 3);
-    input.proposed = certificate;
-    input.proposed_length = answer.length;
-    write_input(folder, number, &input);
+    write_input(folder, number, "compare", &input);
     input.calls_checker = 1;
-    write_input(folder, number, &input);
+    write_checked(folder, number, "check", &input, nuldopa_compare);
+    write_checked(folder, number, "check-one-way", &input, nuldopa_compare_one_way);
 }
 
 int main(int count, char **arguments)

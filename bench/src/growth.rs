@@ -8,8 +8,9 @@ use std::fmt;
 use std::path::{Path, PathBuf};
 use std::process::Command;
 
-/// A family with its sizes, and the positions that it reaches, so that what is too large is left out unmeasured.
-const FAMILIES: [(&str, usize); 15] = [
+/// A family with its sizes, and the positions that it reaches, so that what is too large is left out unmeasured. Where a game
+/// stands before it, that one is played.
+const FAMILIES: [(&str, usize); 18] = [
     ("dearest 4", 209),
     ("dearest 5", 1_546),
     ("dearest 6", 13_327),
@@ -25,7 +26,13 @@ const FAMILIES: [(&str, usize); 15] = [
     ("ring-equal 16 6", 3_027_331),
     ("ring-late 16 6", 3_027_331),
     ("rings-fresh 16 15 6", 3_062_014),
+    ("one-way dearest-equal 5", 1_546),
+    ("one-way rings 16 15", 240),
+    ("one-way rings-fresh 12 11 5", 203_941),
 ];
+
+const ONE_WAY: &str = "one-way";
+const EQUALITY: &str = "equality";
 
 type Failure = Box<dyn std::error::Error>;
 
@@ -68,6 +75,7 @@ impl Cost {
 
 pub struct Row {
     pub family: &'static str,
+    game: &'static str,
     task: PathBuf,
     pub positions: usize,
     rounds: u32,
@@ -83,10 +91,11 @@ pub struct Row {
 impl Row {
     fn new(family: &'static str, stated: usize) -> Result<Row, Failure> {
         let task = Path::new("target/bench").join(family.replace(' ', "-")).with_extension("task");
-        let words = family.split(' ');
+        let mut words: Vec<&str> = family.split(' ').collect();
+        let game = if words[0] == ONE_WAY { words.remove(0) } else { EQUALITY };
         let made = Command::new("target/reference/reference-generate").arg("family").args(words).output()?;
         std::fs::write(&task, made.stdout)?;
-        let counted = measure(&["count", &task.to_string_lossy()])?;
+        let counted = measure(&[game, "count", &task.to_string_lossy()])?;
         let positions = counted.number("positions")?;
         if positions != stated {
             return Err(format!("{family} reaches {positions} positions").into());
@@ -95,6 +104,7 @@ impl Row {
         let ranking: u64 = counted.number("ranking")?;
         Ok(Row {
             family,
+            game,
             task,
             positions,
             rounds: counted.number("rounds")?,
@@ -111,18 +121,18 @@ impl Row {
     fn run(&mut self) -> Result<(), Failure> {
         let task = self.task.to_string_lossy();
         let (entries, length) = (self.positions.to_string(), self.length.to_string());
-        let lines = measure(&["library", &task, &entries, &length])?;
+        let lines = measure(&[self.game, "library", &task, &entries, &length])?;
         if lines.number::<String>("digest")? != self.digest {
             return Err(format!("{}: the library's table or certificate is not the reference's", self.family).into());
         }
         self.library.add(&lines)?;
-        self.baseline.add(&measure(&["baseline", &task])?)
+        self.baseline.add(&measure(&[self.game, "baseline", &task])?)
     }
 }
 
 /// The columns, with their widths.
 const COLUMNS: [(&str, usize); 13] = [
-    ("family", 19),
+    ("family", 27),
     ("positions", 9),
     ("rounds", 6),
     ("passes", 6),
@@ -164,7 +174,7 @@ impl fmt::Display for Row {
             megabytes(library),
             megabytes(baseline),
         ];
-        write!(f, "| {:<19}", fields[0])?;
+        write!(f, "| {:<27}", fields[0])?;
         let numbers = fields.iter().zip(COLUMNS).skip(1);
         numbers.into_iter().try_for_each(|(field, (_, width))| write!(f, " | {field:>width$}"))?;
         f.write_str(" |")
@@ -205,6 +215,8 @@ fn main() -> Result<(), Failure> {
     rows.iter().for_each(|row| println!("{row}"));
     println!("\nSeconds on the processor, least of {} runs; megabytes of the whole process at its peak.", options.runs);
     if let Some(file) = options.picture {
+        // Points of the other game would stand among those of their families.
+        rows.retain(|row| row.game == EQUALITY);
         std::fs::write(file, picture::draw(&rows))?;
     }
     Ok(())

@@ -1,5 +1,5 @@
-//! Counts the pairs of edges that a comparison by passes tries, from the outside: by the reference's attacks and replies,
-//! and by the rounds that it found.
+//! Counts the pairs of edges that a comparison by passes tries in a game, from the outside: by the reference's attacks and
+//! replies, and by the rounds that it found.
 //!
 //! - Exploring tries, at every position reached, each left edge with each right edge that starts there and has its tag.
 //! - Ranking goes over the positions in passes 1, 2 and so on, until a pass finds no further loss: one pass more than the
@@ -14,6 +14,7 @@
 use reference::compare::NEVER_LOST;
 use reference::game::{attacks, replies, Attack, Position, CASE_NEW};
 use reference::model::{Kind, Task};
+use reference::rules::Rules;
 
 pub struct Tried {
     pub passes: u64,
@@ -95,23 +96,23 @@ impl Open {
 }
 
 /// The attacks that ranking tries.
-fn ranked_attacks(task: &Task, position: &Position) -> Vec<Attack> {
+fn ranked_attacks(rules: Rules, task: &Task, position: &Position) -> Vec<Attack> {
     let kind = |a: &Attack| task.model(a.side).edges[a.edge as usize].kind;
-    let mut list = attacks(task, position);
+    let mut list = attacks(rules, task, position);
     list.retain(|a| a.case != CASE_NEW || kind(a) == Kind::GloballyFresh);
     list
 }
 
-pub fn tried(task: &Task, entries: &[(Position, u32)]) -> Tried {
-    let rounds = Rounds::new(entries);
+pub fn tried(rules: Rules, task: &Task, entries: &[(Position, u32)]) -> Tried {
     let lost = entries.iter().map(|(_, n)| *n).filter(|n| *n != NEVER_LOST);
     let passes = lost.max().unwrap_or(0) as u64 + 1;
-    let open = Open::new(task, entries, passes);
+    let (rounds, open) = (Rounds::new(entries), Open::new(task, entries, passes));
+    let ranking = Ranking { rules, task, rounds, open, passes };
     let positions = || entries.iter().map(|(position, _)| position);
     Tried {
         passes,
         exploring: positions().map(|p| same_tag(task, p)).sum(),
-        ranking: positions().map(|p| looked_at(task, &rounds, &open, passes, p)).sum(),
+        ranking: positions().map(|p| ranking.looked_at(p)).sum(),
     }
 }
 
@@ -120,23 +121,36 @@ fn same_tag(task: &Task, position: &Position) -> u64 {
     task.left.edges_from(position.left).map(|(_, e)| right(e.tag) as u64).sum()
 }
 
-/// The replies looked at, over all passes that take this position.
-fn looked_at(task: &Task, rounds: &Rounds, open: &Open, passes: u64, position: &Position) -> u64 {
-    let own = rounds.get(position);
-    if own == 0 {
-        return 0;
-    }
-    let mut sum = 0;
-    // In the last pass that takes the position, attacks after the one that wins are not tried.
-    let mut last = own.min(passes);
-    for attack in ranked_attacks(task, position) {
-        let targets: Vec<u64> = replies(task, position, attack).iter().map(|r| rounds.get(&r.leads_to)).collect();
-        sum += looked_at_in(&targets, last, |after, last| open.between(pair(position), after, last));
-        if last == own && targets.iter().all(|&n| n < own) {
-            last = own - 1;
+/// What ranking goes by, and its count of passes.
+struct Ranking<'a> {
+    rules: Rules,
+    task: &'a Task,
+    rounds: Rounds,
+    open: Open,
+    passes: u64,
+}
+
+impl Ranking<'_> {
+    /// The replies looked at, over all passes that take this position.
+    fn looked_at(&self, position: &Position) -> u64 {
+        let own = self.rounds.get(position);
+        if own == 0 {
+            return 0;
         }
+        let rounds_of = |p: &Position| self.rounds.get(p);
+        let mut sum = 0;
+        // In the last pass that takes the position, attacks after the one that wins are not tried.
+        let mut last = own.min(self.passes);
+        for attack in ranked_attacks(self.rules, self.task, position) {
+            let replies = replies(self.task, position, attack);
+            let targets: Vec<u64> = replies.iter().map(|r| rounds_of(&r.leads_to)).collect();
+            sum += looked_at_in(&targets, last, |after, last| self.open.between(pair(position), after, last));
+            if last == own && targets.iter().all(|&n| n < own) {
+                last = own - 1;
+            }
+        }
+        sum
     }
-    sum
 }
 
 /// A reply is looked at in the open passes up to `last` in which all replies before it lead to positions lost in fewer rounds.
@@ -159,10 +173,10 @@ mod tests {
     use std::collections::BTreeMap;
 
     /// The same counts by going through the passes.
-    fn by_passes(task: &Task) -> (u64, u64) {
+    fn by_passes(rules: Rules, task: &Task) -> (u64, u64) {
         let mut lost: BTreeMap<Position, u64> = BTreeMap::new();
-        let entries = solve(task).entries;
-        for (position, _) in entries.iter().filter(|(p, _)| p.end_marks_differ(task)) {
+        let entries = solve(rules, task).entries;
+        for (position, _) in entries.iter().filter(|(p, _)| p.is_lost_at_once(rules, task)) {
             lost.insert(*position, 0);
         }
         let mut looked_at = 0;
@@ -180,7 +194,7 @@ mod tests {
                         before.contains_key(&reply.leads_to)
                     })
                 };
-                if ranked_attacks(task, &position).into_iter().any(wins) {
+                if ranked_attacks(rules, task, &position).into_iter().any(wins) {
                     lost.insert(position, pass);
                 }
             }
@@ -192,8 +206,10 @@ mod tests {
     }
 
     fn agrees(task: &Task) {
-        let counted = tried(task, &solve(task).entries);
-        assert_eq!((counted.passes, counted.ranking), by_passes(task));
+        for rules in Rules::ALL {
+            let counted = tried(rules, task, &solve(rules, task).entries);
+            assert_eq!((counted.passes, counted.ranking), by_passes(rules, task));
+        }
     }
 
     #[test]
@@ -219,12 +235,16 @@ mod tests {
         }
     }
 
+    fn exploring(task: &Task) -> u64 {
+        tried(Rules::TWO_WAY, task, &solve(Rules::TWO_WAY, task).entries).exploring
+    }
+
     #[test]
     fn exploring_counts_edges_of_one_tag() {
         // 34 positions, 3 edges of one tag on each side.
         let task = family("dearest", &[3]).expect("a family");
-        assert_eq!(tried(&task, &solve(&task).entries).exploring, 34 * 9);
+        assert_eq!(exploring(&task), 34 * 9);
         let task = family("chain", &[9]).expect("a family");
-        assert_eq!(tried(&task, &solve(&task).entries).exploring, 8);
+        assert_eq!(exploring(&task), 8);
     }
 }

@@ -2,6 +2,7 @@
  * environment says what they do wrong before or after they call the true ones, and in which game. */
 #include "../../include/nuldopa.h"
 #include "edit.h"
+#include "input.h"
 #include <stdlib.h>
 #include <string.h>
 
@@ -111,6 +112,23 @@ static void spoil_task(uint8_t *task, size_t length)
         task[0]++;
 }
 
+/* The task with the other end mark in its first state: a game that is whole in itself, but not about the other's task. */
+static const uint8_t *marked_otherwise(const uint8_t *task, size_t length)
+{
+    enum { FIRST_MARK = 7 };
+    static uint8_t marked[MOST_INPUT_BYTES];
+    if (length <= FIRST_MARK || task[FIRST_MARK] > 1)
+        return task;
+    memcpy(marked, task, length);
+    marked[FIRST_MARK] ^= 1;
+    return marked;
+}
+
+static const uint8_t *task_taken(const uint8_t *task, size_t length)
+{
+    return fault_is("another end mark") ? marked_otherwise(task, length) : task;
+}
+
 /* What the other game gives, with the verdict and the kinds of this one. */
 static struct nuldopa_answer compared_by_other(const uint8_t *task, size_t task_length, uint8_t *table, size_t table_length,
                                                uint8_t *certificate, size_t certificate_length)
@@ -131,7 +149,8 @@ static struct nuldopa_answer faulty_compare(const uint8_t *task, size_t task_len
     nuldopa_compare_function *compare = fault_is("compared by the other game") ? compared_by_other : game->compare;
     if (fault_is("what the table held counts") && table_length > 0 && table[0] == 0x5a)
         task_length = 0;
-    struct nuldopa_answer a = compare(task, task_length, table, table_length, certificate, certificate_length);
+    struct nuldopa_answer a = compare(task_taken(task, task_length), task_length, table, table_length, certificate,
+                                      certificate_length);
     spoil_task((uint8_t *)(uintptr_t)task, task_length);
     spoil_table(a, table, table_length);
     spoil_certificate(a, certificate, certificate_length);
@@ -156,7 +175,7 @@ static struct nuldopa_answer misjudged(struct nuldopa_answer a, const uint8_t *t
 static struct nuldopa_answer faulty_check(const uint8_t *task, size_t task_length, const uint8_t *certificate,
                                           size_t certificate_length)
 {
-    struct nuldopa_answer a = game->check(task, task_length, certificate, certificate_length);
+    struct nuldopa_answer a = game->check(task_taken(task, task_length), task_length, certificate, certificate_length);
     a = misjudged(a, task, task_length, certificate, certificate_length);
     if (fault_is("accepted with fewer rounds") && a.rounds > 0)
         a.rounds--;

@@ -5,6 +5,7 @@ mod lent;
 
 use lent::Lent;
 use nuldopa::boundary::{self, Answer};
+use nuldopa::Game;
 use std::env;
 use std::io::{self, Read, Write};
 use std::process::{Command, Stdio};
@@ -66,7 +67,7 @@ fn read(program: &str, task: &[u8]) -> Vec<u8> {
     let mut words = text.split_whitespace();
     let verdict = words.next().unwrap_or("");
     let numbers: Vec<u8> = words.map(|w| w.parse().expect("a number of a byte")).collect();
-    let mut out = vec![1];
+    let mut out = Vec::new();
     if verdict == "READ" {
         put_number(&mut out, 0);
         put_string(&mut out, &dump(&numbers));
@@ -77,21 +78,23 @@ fn read(program: &str, task: &[u8]) -> Vec<u8> {
     out
 }
 
-/// The frames number the verdicts 1 and 2 and the library by the kinds of their certificates, 16 and 17. No other number
-/// of the library's becomes one of the frames'.
+/// The frames number EQUAL and DIFFER 1 and 2, and the other verdicts as the library does, by the kinds of their
+/// certificates. No other number of the library's becomes one of the frames'.
 fn verdict(answer: &Answer) -> usize {
     match answer.verdict {
         0 => 0,
         16 => 1,
         17 => 2,
+        18 => 18,
+        19 => 19,
         other => panic!("verdict {other}"),
     }
 }
 
-fn compare(task: &[u8], table: &[u8], certificate: &[u8]) -> Vec<u8> {
+fn compare(game: Game, task: &[u8], table: &[u8], certificate: &[u8]) -> Vec<u8> {
     let (mut table, mut certificate) = (Lent::new(table), Lent::new(certificate));
-    let answer = boundary::compare(task, table.bytes(), certificate.bytes());
-    let mut out = vec![2];
+    let answer = boundary::compare(game, task, table.bytes(), certificate.bytes());
+    let mut out = Vec::new();
     put_number(&mut out, answer.refusal as usize);
     put_number(&mut out, verdict(&answer));
     put_number(&mut out, answer.positions as usize);
@@ -102,26 +105,31 @@ fn compare(task: &[u8], table: &[u8], certificate: &[u8]) -> Vec<u8> {
     out
 }
 
-fn check(task: &[u8], certificate: &[u8]) -> Vec<u8> {
-    let answer = boundary::check(task, certificate);
+fn check(game: Game, task: &[u8], certificate: &[u8]) -> Vec<u8> {
+    let answer = boundary::check(game, task, certificate);
     // The frame has no place for these two, which the checker leaves 0.
     assert_eq!((answer.positions, answer.length), (0, 0));
-    let mut out = vec![3];
+    let mut out = Vec::new();
     put_number(&mut out, answer.refusal as usize);
     put_number(&mut out, verdict(&answer));
     put_number(&mut out, answer.rounds as usize);
     out
 }
 
+/// The operation, and what it gives.
 fn answer(program: &str, payload: &[u8]) -> Vec<u8> {
     let mut at = 1;
     let mut next = || string(payload, &mut at);
-    match payload[0] {
+    let operation = payload[0];
+    let given = match operation {
         1 => read(program, next()),
-        2 => compare(next(), next(), next()),
-        3 => check(next(), next()),
-        operation => panic!("no operation {operation}"),
-    }
+        2 => compare(Game::Equality, next(), next(), next()),
+        3 => check(Game::Equality, next(), next()),
+        4 => compare(Game::OneWay, next(), next(), next()),
+        5 => check(Game::OneWay, next(), next()),
+        _ => panic!("no operation {operation}"),
+    };
+    [&[operation], &given[..]].concat()
 }
 
 fn main() {

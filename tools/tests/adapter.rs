@@ -1,6 +1,7 @@
 //! Asks the reference by way of its adapter (reference/README.md, "Frames").
 use std::io::{Read, Write};
 use std::process::{Child, ChildStdin, ChildStdout, Command, Stdio};
+use tools::game::Game;
 
 const TABLE: usize = 12 * 4000;
 const BUFFER: usize = 16 * 4000;
@@ -9,12 +10,6 @@ pub struct Adapter {
     child: Child,
     requests: ChildStdin,
     answers: ChildStdout,
-}
-
-/// What the reference's comparer answers. Verdict 1 is EQUAL and 2 DIFFER.
-pub struct Comparison {
-    pub verdict: u32,
-    pub certificate: Vec<u8>,
 }
 
 impl Adapter {
@@ -51,24 +46,29 @@ impl Adapter {
         Ok((number(&answer, 1)?, answer.get(9..).unwrap_or(&[]).to_vec()))
     }
 
-    /// Nothing if the comparison is refused.
-    pub fn compare(&mut self, task: &[u8]) -> Result<Option<Comparison>, String> {
-        let answer = self.ask(2, &[task, &vec![0; TABLE], &vec![0; BUFFER]])?;
+    /// The certificate of a comparison; nothing if it is refused.
+    pub fn compare(&mut self, game: Game, task: &[u8]) -> Result<Option<Vec<u8>>, String> {
+        let operation = match game {
+            Game::Equality => 2,
+            Game::OneWay => 4,
+        };
+        let answer = self.ask(operation, &[task, &vec![0; TABLE], &vec![0; BUFFER]])?;
         if number(&answer, 1)? != 0 {
             return Ok(None);
         }
         let length = number(&answer, 17)? as usize;
         let begin = 21 + 4 + TABLE + 4;
         let certificate = answer.get(begin..begin + length).ok_or("a short answer")?;
-        Ok(Some(Comparison {
-            verdict: number(&answer, 5)?,
-            certificate: certificate.to_vec(),
-        }))
+        Ok(Some(certificate.to_vec()))
     }
 
     /// The refusal of a certificate, 0 if it is accepted.
-    pub fn check(&mut self, task: &[u8], certificate: &[u8]) -> Result<u32, String> {
-        number(&self.ask(3, &[task, certificate])?, 1)
+    pub fn check(&mut self, game: Game, task: &[u8], certificate: &[u8]) -> Result<u32, String> {
+        let operation = match game {
+            Game::Equality => 3,
+            Game::OneWay => 5,
+        };
+        number(&self.ask(operation, &[task, certificate])?, 1)
     }
 
     fn ask(&mut self, operation: u8, strings: &[&[u8]]) -> Result<Vec<u8>, String> {

@@ -5,14 +5,29 @@ use crate::programs::{self, EXPLAIN};
 use crate::random::Random;
 use crate::samples::ends_with_reason;
 use crate::tally::{same, Tally};
+use tools::game::Game;
 use tools::{explain, task};
 
-const DIFFERENT: usize = 500;
-const EQUAL: usize = 200;
-const ALTERED: usize = 6_000;
-/// An altered certificate is accepted, or refused with 13 or with 14, so often at least.
+/// A verdict, and how many certificates of it are explained.
+struct Verdict {
+    game: Game,
+    kind: u8,
+    name: &'static str,
+    count: usize,
+}
+
+#[rustfmt::skip]
+const VERDICTS: [Verdict; 4] = [
+    Verdict { game: Game::Equality, kind: 16, name: "EQUAL",       count: 200 },
+    Verdict { game: Game::Equality, kind: 17, name: "DIFFER",      count: 500 },
+    Verdict { game: Game::OneWay,   kind: 18, name: "FOLLOWS",     count: 100 },
+    Verdict { game: Game::OneWay,   kind: 19, name: "FALLS SHORT", count: 200 },
+];
+
+const ALTERED: usize = 8_000;
+/// In each game an altered certificate is accepted, or refused with 13 or with 14, so often at least.
 const LEAST: usize = 100;
-/// The lengths of the records of an EQUAL and a DIFFER certificate.
+/// The lengths of the records of kept and of lost positions.
 const KEPT: usize = 9;
 const LOST: usize = 16;
 
@@ -21,52 +36,59 @@ struct Compared {
     certificate: Vec<u8>,
 }
 
+impl Compared {
+    fn is_kept(&self) -> bool {
+        self.certificate[0] % 2 == 0
+    }
+
+    fn record_length(&self) -> usize {
+        if self.is_kept() {
+            KEPT
+        } else {
+            LOST
+        }
+    }
+}
+
 pub fn run(tally: &mut Tally, tasks: &[Vec<u8>]) -> Result<(), String> {
     let mut reference = Adapter::start()?;
-    let (equal, different) = compared(&mut reference, tasks)?;
-    tally.check("enough EQUAL", same("their count", equal.len(), EQUAL));
-    tally.check(
-        "enough DIFFER",
-        same("their count", different.len(), DIFFERENT),
-    );
-    tally.check("explain EQUAL", equal.iter().try_for_each(explained_equal));
-    tally.check(
-        "explain DIFFER",
-        different.iter().try_for_each(explained_difference),
-    );
-    let both: Vec<&Compared> = equal.iter().chain(&different).collect();
+    let mut all = Vec::new();
+    for verdict in &VERDICTS {
+        let Verdict { name, count, .. } = verdict;
+        let compared = compared(&mut reference, tasks, verdict)?;
+        let enough = same("their count", compared.len(), *count);
+        tally.check(&format!("enough {name}"), enough);
+        let explained = compared.iter().try_for_each(|one| explained(one, name));
+        tally.check(&format!("explain {name}"), explained);
+        all.extend(compared);
+    }
     tally.check(
         "altered certificates",
-        altered_certificates(&mut reference, &both),
+        altered_certificates(&mut reference, &all),
     );
     reference.stop()
 }
 
-/// Tasks with their certificates, by verdict.
+/// The first tasks with this verdict, with their certificates.
 fn compared(
     reference: &mut Adapter,
     tasks: &[Vec<u8>],
-) -> Result<(Vec<Compared>, Vec<Compared>), String> {
-    let (mut equal, mut different) = (Vec::new(), Vec::new());
+    verdict: &Verdict,
+) -> Result<Vec<Compared>, String> {
+    let mut list = Vec::new();
     for task in tasks {
-        if equal.len() == EQUAL && different.len() == DIFFERENT {
+        if list.len() == verdict.count {
             break;
         }
-        let Some(comparison) = reference.compare(task)? else {
-            continue;
-        };
-        let (list, limit) = match comparison.verdict {
-            1 => (&mut equal, EQUAL),
-            _ => (&mut different, DIFFERENT),
-        };
-        if list.len() < limit {
-            list.push(Compared {
+        match reference.compare(verdict.game, task)? {
+            Some(certificate) if certificate[0] == verdict.kind => list.push(Compared {
                 task: task.clone(),
-                certificate: comparison.certificate,
-            });
+                certificate,
+            }),
+            _ => {}
         }
     }
-    Ok((equal, different))
+    Ok(list)
 }
 
 /// What the program prints; anything but success is an error.
@@ -79,61 +101,61 @@ fn explanation(compared: &Compared) -> Result<String, String> {
     String::from_utf8(printed.out).map_err(|error| error.to_string())
 }
 
-fn explained_equal(compared: &Compared) -> Result<(), String> {
+/// It says the verdict, and then how many positions were kept, or how the attack goes to its end: the comparer lists what
+/// its attacks lead to and nothing else, so there is a step for each record.
+fn explained(compared: &Compared, verdict: &str) -> Result<(), String> {
     let text = explanation(compared)?;
-    let kept = compared.certificate.len() / KEPT;
-    let counted = text.contains(&format!(" {kept} position"));
-    same(
-        "EQUAL, and the count",
-        text.starts_with("EQUAL: ") && counted,
-        true,
-    )
-}
-
-/// The comparer lists what its attacks lead to and nothing else, so there is a step for each record.
-fn explained_difference(compared: &Compared) -> Result<(), String> {
-    let text = explanation(compared)?;
-    same("DIFFER", text.starts_with("DIFFER: "), true)?;
+    same("the verdict", text.split(':').next(), Some(verdict))?;
+    let records = compared.certificate.len() / compared.record_length();
+    if compared.is_kept() {
+        let counted = text.contains(&format!(" {records} position"));
+        return same("the count", counted, true);
+    }
     let steps = text
         .lines()
         .filter(|line| line.starts_with("Step "))
         .count();
-    same("the steps", steps, compared.certificate.len() / LOST)?;
+    same("the steps", steps, records)?;
     ends_with_reason(&text)
 }
 
-fn altered_certificates(reference: &mut Adapter, all: &[&Compared]) -> Result<(), String> {
+/// The game that a certificate's kind stands for; where it stands for none, either check refuses it.
+fn game_of(certificate: &[u8]) -> Game {
+    match certificate.first() {
+        Some(18 | 19) => Game::OneWay,
+        _ => Game::Equality,
+    }
+}
+
+/// Accepted, refused with 13, and with 14, by game.
+type Counts = [[usize; 3]; 2];
+
+fn altered_certificates(reference: &mut Adapter, all: &[Compared]) -> Result<(), String> {
     let mut random = Random::new(4);
-    let (mut accepted, mut malformed, mut unproved) = (0, 0, 0);
+    let mut counts: Counts = [[0; 3]; 2];
     for _ in 0..ALTERED {
-        let Compared { task, certificate } = all[random.below(all.len())];
-        let altered = altered(certificate, &mut random);
-        let expected = reference.check(task, &altered)?;
-        let (read, _) = task::read(task).map_err(|refusal| refusal.to_string())?;
+        let compared = &all[random.below(all.len())];
+        let altered = altered(compared, &mut random);
+        let game = game_of(&altered);
+        let expected = reference.check(game, &compared.task, &altered)?;
+        let (read, _) = task::read(&compared.task).map_err(|refusal| refusal.to_string())?;
         let found = match explain::explain(&read, &altered) {
             Ok(_) => 0,
             Err(refusal) => refusal.number,
         };
         same("the checker's answer", u32::from(found), expected)?;
-        match found {
-            0 => accepted += 1,
-            13 => malformed += 1,
-            _ => unproved += 1,
-        }
+        let place = [0, 13, 14].iter().position(|&number| number == found);
+        counts[game as usize][place.ok_or("another refusal")?] += 1;
     }
-    println!("{ALTERED} altered certificates: {accepted} accepted, {malformed} refused with 13, {unproved} with 14");
-    let least = accepted.min(malformed).min(unproved);
-    same("each often enough", least >= LEAST, true)
+    println!("{ALTERED} altered certificates, accepted, refused with 13, with 14: {counts:?}");
+    let enough = counts.as_flattened().iter().all(|&count| count >= LEAST);
+    same("each often enough", enough, true)
 }
 
 /// A certificate with a record left out, a small change of a byte, or an end cut off.
-fn altered(certificate: &[u8], random: &mut Random) -> Vec<u8> {
-    let mut bytes = certificate.to_vec();
-    let length = if bytes.first() == Some(&16) {
-        KEPT
-    } else {
-        LOST
-    };
+fn altered(compared: &Compared, random: &mut Random) -> Vec<u8> {
+    let mut bytes = compared.certificate.clone();
+    let length = compared.record_length();
     let record = random.below(bytes.len() / length) * length;
     match random.below(8) {
         0 => drop(bytes.drain(record..record + length)),

@@ -81,7 +81,7 @@ fn random_bytes(tasks: &[Vec<u8>]) -> Result<(), String> {
         let mut bytes: Vec<u8> = (0..length).map(|_| random.below(limit) as u8).collect();
         let _ = text::from_bytes(&bytes);
         let _ = text::to_bytes(&bytes);
-        for kind in [16, 17] {
+        for kind in 16..20 {
             if let Some(first) = bytes.first_mut() {
                 *first = kind;
             }

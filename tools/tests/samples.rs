@@ -5,11 +5,20 @@ use std::path::Path;
 
 /// The list has so many samples at least.
 const LEAST: usize = 10;
+/// Samples whose explanation in the one-way game is in tools/expected, as NAME-one-way.txt. Of the others it would be that
+/// of the other game but for its first line.
+const ONE_WAY: [&str; 4] = [
+    "case-06",
+    "case-06-exchanged",
+    "case-11",
+    "case-11-exchanged",
+];
 
 struct Sample {
     name: String,
-    /// The first line of compare's output, as the list states it.
+    /// The first lines of compare's and compare_one_way's output, as the list states them.
     stated: String,
+    stated_one_way: String,
     file: String,
 }
 
@@ -19,9 +28,15 @@ fn samples() -> Result<Vec<Sample>, String> {
     let sample = |row: &str| {
         let mut columns = row.split('|').map(str::trim);
         let name = columns.next()?.to_string();
-        let stated = columns.next()?.to_string();
+        let mut next = || columns.next().map(str::to_string);
+        let (stated, stated_one_way) = (next()?, next()?);
         let file = format!("samples/{name}.task");
-        Some(Sample { name, stated, file })
+        Some(Sample {
+            name,
+            stated,
+            stated_one_way,
+            file,
+        })
     };
     Ok(rows.filter_map(sample).collect())
 }
@@ -33,6 +48,10 @@ pub fn run(tally: &mut Tally) -> Result<(), String> {
     for sample in &samples {
         tally.check(&format!("text of {}", sample.name), converted(sample));
         tally.check(&format!("explain {}", sample.name), explained(sample));
+        tally.check(
+            &format!("explain {} one way", sample.name),
+            explained_one_way(sample),
+        );
     }
     tally.check("tools/README.md", shown_in_readme());
     Ok(())
@@ -72,24 +91,51 @@ fn converted(sample: &Sample) -> Result<(), String> {
 
 /// The explanation in tools/expected, of the stated verdict; or the stated refusal.
 fn explained(sample: &Sample) -> Result<(), String> {
+    let text = explanation(sample, &[], &sample.stated)?;
+    match text {
+        Some(text) => as_expected(&sample.name, text),
+        None => Ok(()),
+    }
+}
+
+/// The same in the one-way game, where it is in tools/expected.
+fn explained_one_way(sample: &Sample) -> Result<(), String> {
+    let text = explanation(sample, &["--one-way"], &sample.stated_one_way)?;
+    match text {
+        Some(text) if ONE_WAY.contains(&&sample.name[..]) => {
+            as_expected(&format!("{}-one-way", sample.name), text)
+        }
+        _ => Ok(()),
+    }
+}
+
+fn as_expected(name: &str, text: String) -> Result<(), String> {
+    let expected = programs::text(Path::new(&format!("tools/expected/{name}.txt")))?;
+    same("the explanation", text, expected)
+}
+
+/// The explanation of the certificate that the reference writes with these options, if it is of the stated verdict; nothing
+/// where the task is refused as stated.
+fn explanation(sample: &Sample, options: &[&str], stated: &str) -> Result<Option<String>, String> {
     let certificate = programs::file(&format!("{}.certificate", sample.name), b"")?;
     let task = programs::read(Path::new(&sample.file))?;
-    programs::run(COMPARE, &["--certificate", &certificate], &task)?;
+    let arguments = [options, &["--certificate", &certificate]].concat();
+    programs::run(COMPARE, &arguments, &task)?;
     let printed = programs::run(EXPLAIN, &[&sample.file, &certificate], b"")?;
     let text = String::from_utf8_lossy(&printed.out).into_owned();
-    let verdict = sample.stated.split(' ').next().unwrap_or_default();
-    if verdict == "REFUSED" {
+    if stated.starts_with("REFUSED") {
         same("the output", &text[..], "")?;
-        let named = printed.errors.contains(&sample.stated);
+        let named = printed.errors.contains(stated);
         same("the refusal is named", named, true)?;
-        return same("the status", printed.status, Some(1));
+        same("the status", printed.status, Some(1))?;
+        return Ok(None);
     }
     same("the messages", &printed.errors[..], "")?;
     same("the status", printed.status, Some(0))?;
-    same("the verdict", text.split(':').next(), Some(verdict))?;
-    let expected = format!("tools/expected/{}.txt", sample.name);
-    let expected = programs::text(Path::new(&expected))?;
-    same("the explanation", text, expected)
+    // The verdict, which may be two words, is what stands before positions and rounds.
+    let verdict = stated.rsplitn(3, ' ').last();
+    same("the verdict", text.split(':').next(), verdict)?;
+    Ok(Some(text))
 }
 
 /// The last line of an attack's explanation is an end, with its reason.

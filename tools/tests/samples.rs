@@ -5,8 +5,8 @@ use std::path::Path;
 
 /// The list has so many samples at least.
 const LEAST: usize = 10;
-/// Samples whose explanation in the one-way game is in tools/expected, as NAME-one-way.txt. Of the others it would be that
-/// of the other game but for its first line.
+/// Samples whose explanation in the one-way game is in tools/expected, as NAME-one-way.txt. Of the others it tells what that
+/// of the other game tells, after another first line.
 const ONE_WAY: [&str; 4] = [
     "case-06",
     "case-06-exchanged",

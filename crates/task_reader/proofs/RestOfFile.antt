@@ -14,8 +14,8 @@ use Rattle.task.specs.declared.Stage.{Stage}
 use Rattle.task.specs.declared.Stage.the-variants.{Start, States, Edges, Pairs, Ended}
 use Rattle.task.specs.declared.Progress.{Progress}
 use Rattle.task.specs.declared.Stepped.{Stepped}
-use Rattle.task_records.specs.Due.{Due}
-use Rattle.task_records.proofs.OutOfPlace.{Tagged, absent}
+use Rattle.task_progress.specs.Due.{Due}
+use Rattle.task_progress.proofs.OutOfPlace.{Tagged, absent}
 use Rattle.task_reader.proofs.StateDueKept.{kept}
 
 -- the file is read as far as `at`, with this progress, and the spare fuel is enough for the rest

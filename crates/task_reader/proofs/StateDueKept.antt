@@ -17,8 +17,8 @@ use Rattle.task.specs.declared.Stage.{Stage}
 use Rattle.task.specs.declared.Stage.the-variants.{Start, States, Edges, Pairs, Ended}
 use Rattle.task.specs.declared.Progress.{Progress}
 use Rattle.task.specs.declared.Stepped.{Stepped}
-use Rattle.task_records.specs.Due.{Due}
-use Rattle.task_records.proofs.StepResults.{header-refused, header-taken, state-refused, state-taken, edge-refused, edge-taken, pair-refused, pair-taken}
+use Rattle.task_progress.specs.Due.{Due}
+use Rattle.task_progress.proofs.StepResults.{header-refused, header-taken, state-refused, state-taken, edge-refused, edge-taken, pair-refused, pair-taken}
 
 -- what a step leaves, unless it refuses
 abbrev pub Kept : Stepped → Type 0

@@ -8,14 +8,14 @@ use task::Progress;
 use task::Stage;
 use task::Stepped;
 use task::TaskRead;
-use task_records::edge;
-use task_records::end;
-use task_records::header;
-use task_records::pair;
-use task_records::state;
+use task_edges::edge;
+use task_models::header;
+use task_models::state;
+use task_pairs::end;
+use task_pairs::pair;
 ghost use mathlib.Core.Path.{_≡_};
 ghost use Rattle.task.specs.TaskFile.{recordKind, bodyLength, step, noTask, refused, atStart, atEnd, readTask};
-ghost use Rattle.task_records.specs.Due.{Due};
+ghost use Rattle.task_progress.specs.Due.{Due};
 ghost use Rattle.task_reader.specs.Kinds.{defined, announced};
 
 pub enum Kind {

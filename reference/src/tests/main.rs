@@ -11,6 +11,7 @@ mod runner;
 mod whole;
 
 use std::panic::{catch_unwind, AssertUnwindSafe};
+use std::sync::atomic::{AtomicUsize, Ordering};
 use std::time::Instant;
 
 pub type Test = (&'static str, fn());
@@ -28,22 +29,30 @@ fn main() {
         runner::TESTS,
     ];
     std::panic::set_hook(Box::new(|what| println!("       {what}")));
-    let (mut passed, mut failed) = (0, 0);
-    for (name, test) in lists.concat() {
-        if !wanted.is_empty() && !wanted.iter().any(|w| name.contains(w.as_str())) {
-            continue;
-        }
-        let begin = Instant::now();
-        let outcome = catch_unwind(AssertUnwindSafe(test));
-        let seconds = begin.elapsed().as_secs_f32();
-        if outcome.is_ok() {
-            passed += 1;
-            println!("ok     {seconds:6.2}s  {name}");
-        } else {
-            failed += 1;
-            println!("FAILED {seconds:6.2}s  {name}");
-        }
-    }
-    println!("{passed} passed, {failed} failed");
+    let mut tests = lists.concat();
+    tests.retain(|(name, _)| wanted.is_empty() || wanted.iter().any(|w| name.contains(w.as_str())));
+    let failed = failures(&tests);
+    println!("{} passed, {failed} failed", tests.len() - failed);
     std::process::exit((failed != 0) as i32);
+}
+
+/// How many of the tests fail, run two at a time.
+fn failures(tests: &[Test]) -> usize {
+    let next = AtomicUsize::new(0);
+    let run = || {
+        let mine = || tests.get(next.fetch_add(1, Ordering::Relaxed));
+        std::iter::from_fn(mine).filter(|test| !passes(test)).count()
+    };
+    std::thread::scope(|scope| {
+        let other = scope.spawn(run);
+        run() + other.join().expect("what panics in a test is caught")
+    })
+}
+
+fn passes(&(name, test): &Test) -> bool {
+    let begin = Instant::now();
+    let passed = catch_unwind(AssertUnwindSafe(test)).is_ok();
+    let word = if passed { "ok" } else { "FAILED" };
+    println!("{word:6} {:6.2}s  {name}", begin.elapsed().as_secs_f32());
+    passed
 }

@@ -1,0 +1,2 @@
+-- What the contracts of edge records cite beside the definitions of the task file.
+pub mod Ruled

@@ -37,15 +37,16 @@ pub record Rules : Type 0 where
 abbrev pub bisimulation : Rules
 bisimulation = record { attacks = λ s. true; lost = λ l r. not (eqb l r) }
 
--- simulation (02, ticket 1): "only the left side attacks, and a position is lost in 0 rounds if the left end mark is 1 and the
--- right is 0"
 abbrev pub isLeft : Side → Bool
 isLeft Left = true
 isLeft Right = false
 
+-- simulation (02, ticket 1): "only the left side attacks, and a position is lost in 0 rounds if the left end mark is 1 and the
+-- right is 0"
 abbrev pub simulation : Rules
 simulation = record { attacks = isLeft; lost = λ l r. eqb l 1 && eqb r 0 }
 
+-- what each game is
 abbrev pub rulesOf : Game → Rules
 rulesOf BothAttack = bisimulation
 rulesOf LeftAttacks = simulation

@@ -305,7 +305,7 @@ pub enum IdCase {
     New,
 }
 
-// A challenge of the bisimulation game: one side takes one of its edges.
+// A challenge: one side takes one of its edges.
 pub struct Attack {
     pub side: Side,
     pub edge: u8,

@@ -1,20 +1,18 @@
 -- The positions reached do not depend on who attacks, as long as some side does: two games on one task reach the same
--- positions, and their lists are one. For any register count. Assumes nothing.
+-- positions. For any register count. Assumes nothing.
 use Prim.Native.Nat.{ℕ}
 use mathlib.Core.Path.{_≡_}
 use mathlib.Core.Bool.{true}
 use Rattle.fra.specs.Lists.{_∈_}
 use Rattle.fra.specs.Rules.{Rules}
 use Rattle.fra.specs.Position.{legal}
-use Rattle.fra.specs.Reach.{begin, onward, successors, Reached, reached}
+use Rattle.fra.specs.Reach.{begin, onward, successors, Reached}
 use Rattle.fra.specs.Valid.{Valid}
 use Rattle.fra.specs.declared.Position.{Position}
 use Rattle.fra.specs.declared.Task.{Task}
 use Rattle.fra.specs.declared.Side.{Side}
-use Rattle.fra_laws.proofs.Order.{rising-same}
 use Rattle.fra_laws.proofs.Closure.{closure-keeps}
 use Rattle.fra_laws.proofs.Legal.{successors-legal}
-use Rattle.fra_laws.proofs.Reached.{reached-exactly, reached-rising}
 use Rattle.fra_laws.proofs.Successors.{successors-by-pairs}
 
 module _ {r : ℕ} {t : Task} (valid : Valid r t) where
@@ -29,12 +27,3 @@ module _ {r : ℕ} {t : Task} (valid : Valid r t) where
   reached-alike g h a b p c =
       closure-keeps (λ q. (legal r t q ≡ true) × Reached h t q) (valid .start-legal, begin)
       (λ p q (l, d) m. (successors-legal valid g p q l m, onward d (successors-alike g h a b p q l m))) c .1
-
-  pub reached-same : (g h : Rules) {s s′ : Side} → g .attacks s ≡ true → h .attacks s′ ≡ true → reached g t ≡ reached h t
-  reached-same g h a b =
-      rising-same (reached g t) (reached h t) (reached-rising valid g) (reached-rising valid h)
-      (λ p. (into g h a b p, into h g b a p))
-    where
-      into : (g h : Rules) {s s′ : Side} → g .attacks s ≡ true → h .attacks s′ ≡ true
-          → (p : Position) → p ∈ reached g t → p ∈ reached h t
-      into g h a b p m = reached-exactly valid h p .1 (reached-alike g h a b p (reached-exactly valid g p .0 m))

@@ -341,7 +341,21 @@ sameBuffers o (some b) = Lists.equal (o .table) (b .table) && Lists.equal (o .ce
 
 -- the outcome of a case; the lent buffers hold other bytes at entry
 unfoldable pub outcome : Case → Compare.Outcome
-unfolding flatMap Lists.any Lists.all Lists.keep Lists.first Lists.count Lists.least Lists.below Lists.equal Registers.has Registers.inside Registers.with Model.setOf Model.markOf Model.edgeOf Model.edgeBytes Position.rightPartner Position.leftPartner Position.partner Position.matching Position.legal Position.bytes Position.before Play.hasCase Play.isAttack Play.cases Play.named Play.attacks Play.answers Play.isReply Play.replies Play.rejoined Play.remaining Play.matched Play.moved Play.after Play.lostAtOnce Play.lostWithin Reach.successors Reach.insert Reach.grown Reach.closed Reach.enough Reach.reached Reach.rank Reach.rounds TaskFile.noModel TaskFile.noTask TaskFile.atStart TaskFile.headerRefusal TaskFile.headed TaskFile.withHeader TaskFile.headerAt TaskFile.stateRefusal TaskFile.withState TaskFile.afterState TaskFile.stateAt TaskFile.edgeOfBody TaskFile.edgeExists TaskFile.keepsRule TaskFile.rises TaskFile.edgeRefusal TaskFile.withEdge TaskFile.edgeAt TaskFile.rising TaskFile.pairRefusal TaskFile.withPair TaskFile.pairAt TaskFile.endAt TaskFile.header TaskFile.state TaskFile.edge TaskFile.pair TaskFile.end TaskFile.recordKind TaskFile.bodyLength TaskFile.step TaskFile.atEnd TaskFile.readRest TaskFile.readTask Bytes.word Bytes.wordAt Bytes.cleared Bytes.thenZeros Bytes.thenRest Certificate.entry Certificate.entries Certificate.keptRecord Certificate.keptPositions Certificate.lossRecord Certificate.wins Certificate.chosen Certificate.attackOf Certificate.attackLeads Certificate.lossStep Certificate.lossWith Certificate.lossOf Certificate.losses Certificate.certificateBy Compare.capacity Compare.decided Compare.refusedLate Compare.judge Compare.compareTask Compare.compareRead Compare.compare
+unfolding flatMap Lists.any Lists.all Lists.keep Lists.first Lists.count Lists.least Lists.below Lists.equal Registers.has
+    Registers.inside Registers.with Model.setOf Model.markOf Model.edgeOf Model.edgeBytes Position.rightPartner
+    Position.leftPartner Position.partner Position.matching Position.legal Position.bytes Position.before Play.hasCase
+    Play.isAttack Play.cases Play.named Play.attacks Play.answers Play.isReply Play.replies Play.rejoined Play.remaining
+    Play.matched Play.moved Play.after Play.lostAtOnce Play.lostWithin Reach.successors Reach.insert Reach.grown Reach.closed
+    Reach.enough Reach.reached Reach.rank Reach.rounds TaskFile.noModel TaskFile.noTask TaskFile.atStart
+    TaskFile.headerRefusal TaskFile.headed TaskFile.withHeader TaskFile.headerAt TaskFile.stateRefusal TaskFile.withState
+    TaskFile.afterState TaskFile.stateAt TaskFile.edgeOfBody TaskFile.edgeExists TaskFile.keepsRule TaskFile.rises
+    TaskFile.edgeRefusal TaskFile.withEdge TaskFile.edgeAt TaskFile.rising TaskFile.pairRefusal TaskFile.withPair
+    TaskFile.pairAt TaskFile.endAt TaskFile.header TaskFile.state TaskFile.edge TaskFile.pair TaskFile.end TaskFile.recordKind
+    TaskFile.bodyLength TaskFile.step TaskFile.atEnd TaskFile.readRest TaskFile.readTask Bytes.word Bytes.wordAt Bytes.cleared
+    Bytes.thenZeros Bytes.thenRest Certificate.entry Certificate.entries Certificate.keptRecord Certificate.keptPositions
+    Certificate.lossRecord Certificate.wins Certificate.chosen Certificate.attackOf Certificate.attackLeads
+    Certificate.lossStep Certificate.lossWith Certificate.lossOf Certificate.losses Certificate.certificateBy Compare.capacity
+    Compare.decided Compare.refusedLate Compare.judge Compare.compareTask Compare.compareRead Compare.compare
 outcome c = Compare.compare (contestOf (c .game)) (c .file) (replicate (c .table) 170) (replicate (c .buffer) 85)
 
 unfoldable pub met : Case → Bool

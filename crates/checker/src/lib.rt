@@ -18,7 +18,7 @@ ghost use Rattle.game_index.specs.Reading.{taskIn, gameIn};
 ghost use Rattle.game_index.specs.Writing.{Index};
 ghost use Rattle.checker_laws.specs.CheckAnswers.{listAnswer};
 
-// The answer to a certificate whose first record is of this kind.
+// The answer to a certificate whose first record has the kind of such positions in the game.
 fn check_list(index: &[u8; SIZE], certificate: &[u8], standing: Standing) -> Check
     requires { ⌜ Index (now index) ⌝ }
     ensures { λ r. ⌜ r ≡ listAnswer (gameIn (now (index .entry))) (taskIn (now (index .entry))) standing (now (certificate .entry)) ⌝ }

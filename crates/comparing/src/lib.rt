@@ -53,6 +53,7 @@ fn print_comparison(game: Game, task: &[u8]) {
     print_lines(answer, &certificate);
 }
 
+// Reads the task, compares and prints.
 pub fn run(game: Game) {
     let mut task = [0u8; LONGEST_TASK + 1];
     let n = io::read_full(STDIN_FILENO, &mut task);

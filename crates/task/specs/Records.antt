@@ -156,6 +156,17 @@ number edge-order = 8
 number edge-limit = 9
 number pair-rule = 10
 
+-- the order in which a record is checked: 01's is that of the numbers; rules of 02 say where they stand
+unfoldable pub order : Rule → ℕ
+order place = 0
+order header-rule = 1
+order state-rule = 2
+order existence = 3
+order register-rule = 4
+order edge-order = 5
+order edge-limit = 6
+order pair-rule = 7
+
 -- "A header has more than 6 registers, 0 or more than 16 states, or a start state that does not exist."
 unfoldable pub HeaderFault : Record → Type 0
 HeaderFault (header r s q) = (6 < r) ⊎ (s ≡ 0) ⊎ (16 < s) ⊎ (s ≤ q)
@@ -261,14 +272,14 @@ pub record CutShort (file : List ℕ) : Type 0 where
   pub cut : ((rest ≡ []) × NoEnd records)
       ⊎ ((byte : ℕ) × (l : List ℕ) × (n : ℕ) × (rest ≡ byte ∷ l) × Body byte n × (length l < n))
 
--- 3 to 10: the first record that breaks a rule breaks this one and no lower
+-- 3 to 10: the first record that breaks a rule breaks this one and none that is checked before it
 pub record Broken (rule : Rule) (file : List ℕ) : Type 0 where
   pub records : List Record
   pub rest : List ℕ
   pub breaking : Record
   pub obeyed : Obeyed file records (encode breaking ++ rest)
   pub breaks : Breaks rule records breaking
-  pub lowest : (lower : Rule) → number lower < number rule → Breaks lower records breaking → ⊥
+  pub first : (other : Rule) → order other < order rule → Breaks other records breaking → ⊥
 
 -- the case that 01 names for refusal n of a task file
 unfoldable pub TurnedBack : ℕ → List ℕ → Type 0

@@ -316,8 +316,8 @@ atEnd p (Edges s) = refused 2
 atEnd p Pairs = refused 2
 atEnd p Ended = record { answer = Read; task = p .task }
 
--- the rest of a file, of fewer than n records. In one record the lowest number counts: 1, "The kind byte is not 1, 2, 3, 4 or
--- 15", then 2, "The file ends inside a body", then the record's own.
+-- the rest of a file, of fewer than n records. In one record the first in checking order counts: 1, "The kind byte is not 1, 2, 3,
+-- 4 or 15", then 2, "The file ends inside a body", then the record's own.
 unfoldable pub readRest : ℕ → Progress → List ℕ → TaskRead
 readRest zero p l = refused 2
 readRest (suc n) p [] = atEnd p (p .stage)

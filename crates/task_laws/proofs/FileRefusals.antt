@@ -1,11 +1,11 @@
 -- Each refusal in its case and in no other: the reader's answer on any file, told by the file's records. Assumes nothing.
 use Prim.Native.Nat.{ℕ, suc, _-_, _<_}
-use mathlib.Core.Path.{_≡_, refl, subst}
+use mathlib.Core.Path.{_≡_, refl, ap, subst}
 use mathlib.Core.Logic.{_↔_, _⊎_, inl, inr}
 use mathlib.Core.List.{List, [], _∷_, _++_, List·Memᴰ·not-nil}
 use native.Mathlib.Omega.{arith}
 use lib.ListN.{length}
-use Rattle.task.specs.Records.{Record, encode, NoEnd, number, Body, Obeyed, nothing, another, TurnedBack}
+use Rattle.task.specs.Records.{Record, encode, NoEnd, number, order, Body, Obeyed, nothing, another, TurnedBack}
 use Rattle.task.specs.TaskFile.{atStart, refused, bodyLength, readTask}
 use Rattle.task.specs.declared.Stage.{Stage}
 use Rattle.task.specs.declared.Stage.the-variants.{Start, States, Edges, Pairs, Ended}
@@ -15,7 +15,7 @@ use Rattle.task.specs.declared.TaskRead.{TaskRead}
 use Rattle.task_laws.proofs.RunsAndHalts.{kind-body, body-kind, unknown-kind, stepOf, Run, begin, onward, Halt, ended, unended, unknown, cut, broken, halts, halt-decides}
 use Rattle.task_laws.proofs.ReadValid.{sound-run}
 use Rattle.task_laws.proofs.Ties.{AtStage, Tied}
-use Rattle.task_laws.proofs.Judging.{number-bounds, Judged, obeys, breaks}
+use Rattle.task_laws.proofs.Judging.{number-least, order-injective, Judged, obeys, breaks}
 use Rattle.task_laws.proofs.RecordSteps.{Correct, after-end, step-correct}
 use Rattle.fra_laws.proofs.Tests.{clash}
 
@@ -39,7 +39,7 @@ run-obeyed {file} (onward {p = p} {rest = rest} x run e) = let w = run-obeyed ru
         at : Judged l x (stepOf x p .refusal) → Tied (x ∷ l) (stepOf x p .progress)
             → (k : List Record) × Obeyed file k rest × Tied k (stepOf x p .progress)
         at (obeys z rules) t = (x ∷ l, another x o rules, t)
-        at (breaks rule z b lowest) t = absurd (omega (arith, number-bounds rule))
+        at (breaks rule z b first) t = absurd (omega (arith, number-least rule))
 
 -- the reader passes every record that is obeyed
 obeyed-run : {file rest : List ℕ} {l : List Record} → Obeyed file l rest → (p : Progress) × Run file p rest × Tied l p
@@ -53,7 +53,7 @@ obeyed-run {file} (another {l = l} {rest = rest} x o rules) = let w = obeyed-run
         at : Judged l x (stepOf x p .refusal) → (stepOf x p .refusal ≡ 0 → Tied (x ∷ l) (stepOf x p .progress))
             → (p′ : Progress) × Run file p′ rest × Tied (x ∷ l) p′
         at (obeys z rules) t = (stepOf x p .progress, onward x run z, t z)
-        at (breaks rule z b lowest) t = absurd (rules rule b)
+        at (breaks rule z b first) t = absurd (rules rule b)
 
 -- ── A file's end ──
 
@@ -96,8 +96,8 @@ refused-turned-back file n e =
       where
         by-rule : Judged l x (stepOf x p .refusal) → TurnedBack n file
         by-rule (obeys z rules) = absurd (omega arith)
-        by-rule (breaks rule z b lowest) =
-            inr (inr (rule, (cc), record { records = l; rest = rest; breaking = x; obeyed = o; breaks = b; lowest = lowest }))
+        by-rule (breaks rule z b first) =
+            inr (inr (rule, (cc), record { records = l; rest = rest; breaking = x; obeyed = o; breaks = b; first = first }))
 
 -- the reader halts with a refusal
 refuses : {file rest : List ℕ} {p : Progress} {k n : ℕ} → Run file p rest → Halt p rest (refused k) → n ≡ k
@@ -128,14 +128,15 @@ turned-back-refused file n (inr (inr (rule, e, b))) =
     let w = obeyed-run (b .obeyed) in
     refuses (w .1)
     (broken (b .breaking) (b .rest) (number rule - 1) (by-rule (correct-after (b .breaking) (w .1) (w .2) .judged)))
-    (omega (arith, number-bounds rule))
+    (omega (arith, number-least rule))
   where
     by-rule : {k : ℕ} → Judged (b .records) (b .breaking) k → k ≡ suc (number rule - 1)
     by-rule (obeys z rules) = absurd (rules rule (b .breaks))
-    by-rule (breaks other z fault lowest) =
-        let below : number other < number rule → ⊥ = λ h. b .lowest other h fault in
-        let above : number rule < number other → ⊥ = λ h. lowest rule h (b .breaks) in
-        omega (arith, number-bounds rule)
+    by-rule (breaks other z fault first) =
+        let below : order other < order rule → ⊥ = λ h. b .first other h fault in
+        let above : order rule < order other → ⊥ = λ h. first rule h (b .breaks) in
+        let same = ap number (order-injective other rule (omega arith)) in
+        omega (arith, number-least rule)
 
 -- Refusal n is the answer exactly in the case that 01 names for it.
 pub refused-exactly : (file : List ℕ) (n : ℕ) → (readTask file .answer ≡ Refused n) ↔ TurnedBack n file

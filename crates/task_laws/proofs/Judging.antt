@@ -1,4 +1,4 @@
--- The check of a record refuses it by the lowest rule that it breaks. Assumes nothing.
+-- The check of a record refuses it by the first rule that it breaks, in checking order. Assumes nothing.
 use Prim.Native.Nat.{ℕ, zero, suc, _+_, _-_, _^_, _≤_, _<_}
 use mathlib.Core.Path.{_≡_, refl, sym, _∙_, ap, subst}
 use mathlib.Core.Logic.{_⊎_, inl, inr, ⊎-elim}
@@ -27,20 +27,20 @@ use Rattle.task_laws.proofs.RecordsRead.{rising-zeros}
 use Rattle.task_laws.proofs.Ties.{Written, Paired}
 use Rattle.fra_laws.proofs.Tests.{and-false, not-both, passes-or-fails}
 use Rattle.fra_laws.proofs.Registers.{has-positive}
-use Rattle.task.specs.Records.{Record, header, state, edge, pair, end, Allowed, statesRead, registers, states, setIn, earlier, start, startSet, Rule, place, header-rule, state-rule, existence, register-rule, edge-order, edge-limit, pair-rule, number, HeaderFault, StateFault, Nonexistence, RegisterFault, KindFault, OrderFault, LimitFault, PairFault, Breaks}
+use Rattle.task.specs.Records.{Record, header, state, edge, pair, end, Allowed, statesRead, registers, states, setIn, earlier, start, startSet, Rule, place, header-rule, state-rule, existence, register-rule, edge-order, edge-limit, pair-rule, number, order, HeaderFault, StateFault, Nonexistence, RegisterFault, KindFault, OrderFault, LimitFault, PairFault, Breaks}
 
--- ── The lowest rule that is broken ──
+-- ── The first rule that is broken ──
 
--- the record breaks no rule of a number below n
+-- the record breaks none of the first n rules
 abbrev Below : ℕ → List Record → Record → Type 0
-Below n l x = (rule : Rule) → number rule < n → Breaks rule l x → ⊥
+Below n l x = (rule : Rule) → order rule < n → Breaks rule l x → ⊥
 
 -- a refusal's number, 0 for none, is right for a record
 pub data Judged (l : List Record) (x : Record) (n : ℕ) : Type 0 where
   obeys : n ≡ 0 → ((rule : Rule) → Breaks rule l x → ⊥) → Judged l x n
-  breaks : (rule : Rule) → n ≡ number rule → Breaks rule l x → Below (number rule) l x → Judged l x n
+  breaks : (rule : Rule) → n ≡ number rule → Breaks rule l x → Below (order rule) l x → Judged l x n
 
--- the rule of a number
+-- the rule at a place of the checking order
 ruleOf : ℕ → Rule
 ruleOf zero = place
 ruleOf (suc zero) = header-rule
@@ -51,57 +51,69 @@ ruleOf (suc (suc (suc (suc (suc zero))))) = edge-order
 ruleOf (suc (suc (suc (suc (suc (suc zero)))))) = edge-limit
 ruleOf (suc (suc (suc (suc (suc (suc (suc n))))))) = pair-rule
 
-ruleOf-number : (rule : Rule) → ruleOf (number rule - 3) ≡ rule
-unfolding ruleOf number
-ruleOf-number place = refl
-ruleOf-number header-rule = refl
-ruleOf-number state-rule = refl
-ruleOf-number existence = refl
-ruleOf-number register-rule = refl
-ruleOf-number edge-order = refl
-ruleOf-number edge-limit = refl
-ruleOf-number pair-rule = refl
+ruleOf-order : (rule : Rule) → ruleOf (order rule) ≡ rule
+unfolding ruleOf order
+ruleOf-order place = refl
+ruleOf-order header-rule = refl
+ruleOf-order state-rule = refl
+ruleOf-order existence = refl
+ruleOf-order register-rule = refl
+ruleOf-order edge-order = refl
+ruleOf-order edge-limit = refl
+ruleOf-order pair-rule = refl
 
-number-injective : (a b : Rule) → number a ≡ number b → a ≡ b
-number-injective a b e = sym (ruleOf-number a) ∙ ap (λ (n : ℕ). ruleOf (n - 3)) e ∙ ruleOf-number b
+pub order-injective : (a b : Rule) → order a ≡ order b → a ≡ b
+order-injective a b e = sym (ruleOf-order a) ∙ ap ruleOf e ∙ ruleOf-order b
 
-pub number-bounds : (rule : Rule) → (3 ≤ number rule) × (number rule < 11)
+order-last : (rule : Rule) → order rule ≤ order pair-rule
+unfolding order
+order-last place = omega arith
+order-last header-rule = omega arith
+order-last state-rule = omega arith
+order-last existence = omega arith
+order-last register-rule = omega arith
+order-last edge-order = omega arith
+order-last edge-limit = omega arith
+order-last pair-rule = omega arith
+
+-- 1 and 2 are no rules of a record
+pub number-least : (rule : Rule) → 3 ≤ number rule
 unfolding number
-number-bounds place = omega arith
-number-bounds header-rule = omega arith
-number-bounds state-rule = omega arith
-number-bounds existence = omega arith
-number-bounds register-rule = omega arith
-number-bounds edge-order = omega arith
-number-bounds edge-limit = omega arith
-number-bounds pair-rule = omega arith
+number-least place = omega arith
+number-least header-rule = omega arith
+number-least state-rule = omega arith
+number-least existence = omega arith
+number-least register-rule = omega arith
+number-least edge-order = omega arith
+number-least edge-limit = omega arith
+number-least pair-rule = omega arith
 
 module _ (l : List Record) (x : Record) where
   -- one rule more is not broken
-  pass : (rule : Rule) → (Breaks rule l x → ⊥) → Below (number rule) l x → Below (suc (number rule)) l x
-  pass rule kept below lower h broken = at (ℕ-discrete (number lower) (number rule))
+  pass : (rule : Rule) → (Breaks rule l x → ⊥) → Below (order rule) l x → Below (suc (order rule)) l x
+  pass rule kept below other h broken = at (ℕ-discrete (order other) (order rule))
     where
-      at : Dec (number lower ≡ number rule) → ⊥
-      at (yes e) = kept (subst (λ (a : Rule). Breaks a l x) (number-injective lower rule e) broken)
-      at (no d) = below lower (omega arith) broken
+      at : Dec (order other ≡ order rule) → ⊥
+      at (yes e) = kept (subst (λ (a : Rule). Breaks a l x) (order-injective other rule e) broken)
+      at (no d) = below other (omega arith) broken
 
   -- a record in its place
-  placed : Allowed l x → Below 4 l x
-  unfolding number Breaks
-  placed allowed = pass place (λ out. out allowed) (λ rule h. absurd (omega (arith, number-bounds rule)))
+  placed : Allowed l x → Below (suc (order place)) l x
+  unfolding order Breaks
+  placed allowed = pass place (λ out. out allowed) (λ rule h. absurd (omega arith))
 
   pub misplaced : (Allowed l x → ⊥) → Judged l x 3
-  unfolding number Breaks
-  misplaced out = breaks place refl out (λ rule h. absurd (omega (arith, number-bounds rule)))
+  unfolding number order Breaks
+  misplaced out = breaks place refl out (λ rule h. absurd (omega arith))
 
   -- no rule is broken
-  obeyed : Below 11 l x → Judged l x 0
-  obeyed below = obeys refl (λ rule. below rule (number-bounds rule .1))
+  obeyed : Below (suc (order pair-rule)) l x → Judged l x 0
+  obeyed below = obeys refl (λ rule. below rule (omega (arith, order-last rule)))
 
   -- a test decides whether a rule is broken
-  check : (rule : Rule) (t : Bool) (n : ℕ) → Below (number rule) l x → (t ≡ true → Breaks rule l x)
+  check : (rule : Rule) (t : Bool) (n : ℕ) → Below (order rule) l x → (t ≡ true → Breaks rule l x)
       → (t ≡ false → Breaks rule l x → ⊥)
-      → (t ≡ false → Below (suc (number rule)) l x → Judged l x n)
+      → (t ≡ false → Below (suc (order rule)) l x → Judged l x n)
       → Judged l x (cond t (number rule) n)
   check rule true n below faulty kept rest = breaks rule refl (faulty refl) below
   check rule false n below faulty kept rest = rest refl (pass rule (kept refl) below)
@@ -127,7 +139,7 @@ header-kept f (inr (inr (inl h))) = omega arith
 header-kept f (inr (inr (inr h))) = omega arith
 
 pub header-judged : (l : List Record) (r n q : ℕ) → Allowed l (header r n q) → Judged l (header r n q) (headerRefusal r n q)
-unfolding headerRefusal number Breaks StateFault Nonexistence KindFault OrderFault LimitFault PairFault
+unfolding headerRefusal number order Breaks StateFault Nonexistence KindFault OrderFault LimitFault PairFault
 header-judged l r n q allowed =
     let x = header r n q in
     check l x header-rule _ 0 (placed l x allowed) (header-faulty r n q)
@@ -160,7 +172,7 @@ module _ (l : List Record) (m : Model) (q n set mark : ℕ) (due : statesRead l 
   state-kept f (inr (inr h)) = omega arith
 
   pub state-judged : Allowed l (state n set mark) → Judged l (state n set mark) (stateRefusal m q n set mark)
-  unfolding stateRefusal number Breaks HeaderFault Nonexistence KindFault OrderFault LimitFault PairFault
+  unfolding stateRefusal number order Breaks HeaderFault Nonexistence KindFault OrderFault LimitFault PairFault
   state-judged allowed =
       let x = state n set mark in
       check l x state-rule _ 0
@@ -230,7 +242,7 @@ module _ (l : List Record) (m : Model) (from tag kind i to : ℕ) (w : Written l
 
   pub edge-judged : Whole m → Allowed l (edge from tag kind i to)
       → Judged l (edge from tag kind i to) (edgeRefusal m (from ∷ tag ∷ kind ∷ i ∷ to ∷ []))
-  unfolding edgeRefusal number Breaks HeaderFault StateFault OrderFault LimitFault PairFault
+  unfolding edgeRefusal number order Breaks HeaderFault StateFault OrderFault LimitFault PairFault
   edge-judged whole allowed =
       check l x existence _ _
       (pass l x state-rule (λ b. b) (pass l x header-rule (λ b. b) (placed l x allowed)))
@@ -322,7 +334,7 @@ module _ (l : List Record) (t : Task) (a b : ℕ) (left : Written (earlier l) (t
       not-both _ (any-at (eqb b) (t .start .partners) (v .0) 0 (v .2) (eq-eqb b _ (sym (v .3)))) (f .unused)
 
   pub pair-judged : Allowed l (pair a b) → Judged l (pair a b) (pairRefusal t a b)
-  unfolding pairRefusal number Breaks HeaderFault StateFault Nonexistence KindFault OrderFault LimitFault
+  unfolding pairRefusal number order Breaks HeaderFault StateFault Nonexistence KindFault OrderFault LimitFault
   pair-judged allowed =
       let x = pair a b in
       check l x pair-rule _ 0
@@ -335,7 +347,7 @@ module _ (l : List Record) (t : Task) (a b : ℕ) (left : Written (earlier l) (t
 -- ── The end ──
 
 pub end-judged : (l : List Record) → Allowed l end → Judged l end 0
-unfolding number Breaks HeaderFault StateFault Nonexistence KindFault OrderFault LimitFault PairFault
+unfolding number order Breaks HeaderFault StateFault Nonexistence KindFault OrderFault LimitFault PairFault
 end-judged l allowed =
     obeyed l end
     (pass l end pair-rule (λ b. b)

@@ -9,14 +9,14 @@ use Rattle.task.specs.Records.{TurnedBack}
 use Rattle.task.specs.TaskFile.{readTask, refusalOf, IsRead}
 use Rattle.task.specs.declared.Answer.{Answer}
 use Rattle.task.specs.declared.Answer.the-variants.{Read, Refused}
-use Rattle.task_laws.proofs.Judging.{number-bounds}
+use Rattle.task_laws.proofs.Judging.{number-least}
 use Rattle.task_laws.proofs.FileRefusals.{refused-exactly}
 
 pub turned-back-number : (n : ℕ) (file : List ℕ) → TurnedBack n file → 0 < n
 unfolding TurnedBack
 turned-back-number n file (inl (e, h)) = omega arith
 turned-back-number n file (inr (inl (e, h))) = omega arith
-turned-back-number n file (inr (inr (rule, e, h))) = let (least, most) = number-bounds rule in omega arith
+turned-back-number n file (inr (inr (rule, e, h))) = omega (arith, number-least rule)
 
 module _ (file : List ℕ) where
   pub answer-read : readTask file .answer ≡ Read → IsRead file

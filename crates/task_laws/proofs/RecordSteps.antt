@@ -1,4 +1,4 @@
--- What the reader does with a record is right: it refuses it by the lowest rule that it breaks, and else says what the records
+-- What the reader does with a record is right: it refuses it by the first rule that it breaks, and else says what the records
 -- say. Assumes nothing.
 use Prim.Native.Nat.{ℕ, suc, _+_, _-_, _≤_}
 use mathlib.Core.Path.{_≡_, refl, sym, ap, subst}

@@ -7,7 +7,8 @@ use Rattle.fra.specs.Model.{edgeOf}
 use Rattle.fra.specs.Position.{legal}
 use Rattle.fra.specs.declared.Position.{Position}
 use Rattle.fra.specs.declared.Side.the-variants.{Left, Right}
-use Rattle.fra_laws.proofs.Successors.{Pair, successors-by-pairs}
+use Rattle.fra_laws.proofs.Pairs.{Pair}
+use Rattle.fra_laws.proofs.Successors.{successors-by-pairs}
 use Rattle.game_moves.proofs.AttacksBySide.{moved-to}
 use Rattle.game_index.specs.Reading.{modelIn, taskIn, rulesIn}
 use Rattle.game_index.specs.Ranges.{stateRange}

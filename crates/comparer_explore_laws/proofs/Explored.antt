@@ -2,9 +2,9 @@
 -- it has the start and all successors it has the same members. The positions may stand in the list under names, as their keys
 -- are. Assumes nothing.
 use Prim.Native.Nat.{ℕ, _≤_}
-use mathlib.Core.Path.{_≡_, refl, sym}
+use mathlib.Core.Path.{_≡_, sym}
 use mathlib.Core.Logic.{_↔_}
-use mathlib.Core.List.{List, [], _∷_, map, List·Memᴰ·head, List·Memᴰ·tail, Memᴰ·cast, Memᴰ·map, Memᴰ·of-map}
+use mathlib.Core.List.{List, map, Memᴰ·cast, Memᴰ·map, Memᴰ·of-map}
 use native.Mathlib.Omega.{arith}
 use lib.ListN.{length, length-map}
 use Rattle.fra.specs.Lists.{_∈_, Unique}
@@ -13,19 +13,8 @@ use Rattle.fra.specs.Reach.{begin, onward, successors, Reached, reached}
 use Rattle.fra.specs.Valid.{Valid}
 use Rattle.fra.specs.declared.Position.{Position}
 use Rattle.fra.specs.declared.Task.{Task}
-use Rattle.fra_laws.proofs.Lengths.{unique-length}
+use Rattle.fra_laws.proofs.Lengths.{map-unique, unique-length}
 use Rattle.fra_laws.proofs.Reached.{reached-exactly, reached-unique}
-
--- names that tell the elements of a list apart
-map-unique : {A B : Type 0} (f : A → B) (l : List A) → ((a b : A) → a ∈ l → b ∈ l → f a ≡ f b → a ≡ b) → Unique l
-    → Unique (map f l)
-map-unique f [] apart u = tt
-map-unique f (x ∷ xs) apart u = (
-  λ m.
-      let w = Memᴰ·of-map f xs m in
-      u .0 (Memᴰ·cast (sym (apart (w .0) x (List·Memᴰ·tail (w .1)) (List·Memᴰ·head refl) (w .2))) (w .1)),
-  map-unique f xs (λ a b m n. apart a b (List·Memᴰ·tail m) (List·Memᴰ·tail n)) (u .1),
-)
 
 module _ {r : ℕ} {t : Task} (valid : Valid r t) (g : Rules) {A : Type 0} (name : Position → A) where
   -- the names of the positions reached

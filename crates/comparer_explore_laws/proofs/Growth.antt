@@ -1,6 +1,7 @@
 -- Growing goes on step by step and place by place, and keeps what holds of all keys. Assumes nothing.
 use Prim.Native.Nat.{ℕ, _+_, _/_, _≤_, _<_}
 use mathlib.Core.Path.{_≡_, refl, _∙_, ap, subst}
+use mathlib.Core.Logic.{_⊎_, inl, inr, ⊎-elim}
 use mathlib.Core.List.{List}
 use native.Mathlib.Omega.{arith}
 use native.Mathlib.Decide.{ℕ-discrete, decLt}
@@ -68,6 +69,30 @@ overflows-as p o =
       missing = o .missing;
     }
 
+-- what is wanted at first, and then
+pub completes-then : {P Q R : ℕ → Type 0} {n m l : ℕ} {a b c : List ℕ} → ((k : ℕ) → P k → R k) → ((k : ℕ) → Q k → R k)
+    → ((k : ℕ) → R k → P k ⊎ Q k)
+    → Completes P n a m b
+    → Completes Q m b l c
+    → Completes R n a l c
+completes-then p q either f g =
+    record {
+      grows = grows-then p q (f .grows) (g .grows);
+      complete = λ k w. ⊎-elim (λ x. holds-kept (g .grows) (f .complete k x)) (g .complete k) (either k w);
+    }
+
+pub overflows-then : {P Q R : ℕ → Type 0} {n m : ℕ} {a b c : List ℕ} → ((k : ℕ) → P k → R k) → ((k : ℕ) → Q k → R k)
+    → Completes P n a m b → Overflows Q m b c → Overflows R n a c
+unfolding capacity
+overflows-then {Q = Q} {m = m} {a} {b} {c} p q f o =
+    let same : capacity b ≡ capacity a = ap (λ n. n / entryWidth) (f .grows .long) in
+    record {
+      grows = grows-then p q (f .grows) (subst (λ x. Grows Q m b x c) same (o .grows));
+      key = o .key;
+      wanted = q (o .key) (o .wanted);
+      missing = subst (λ x. Holds x c (o .key) → ⊥) same (o .missing);
+    }
+
 -- nothing is wanted
 pub completes-none : {Wanted : ℕ → Type 0} {n : ℕ} {table : List ℕ} → Stored n table → ((k : ℕ) → Wanted k → ⊥)
     → Completes Wanted n table n table
@@ -92,38 +117,24 @@ module _ (first end : ℕ) (Wanted : ℕ → ℕ → Type 0) where
 
   pub passed-next : {n m l i : ℕ} {a b c : List ℕ} → i < end → Passed first end Wanted i n a m b → Completes (Wanted i) m b l c
       → Passed first end Wanted (i + 1) n a l c
-  passed-next {l = l} {i = i} {c = c} h f g =
+  passed-next {i = i} h f g =
       record {
         from = omega (arith, f .from);
         within = λ x. omega arith;
         visited =
-            record {
-              grows =
-                  grows-then (among-more i (i + 1) (omega arith)) (among-last i (i + 1) (f .from) (omega arith))
-                  (f .visited .grows)
-                  (g .grows);
-              complete = λ k w. step k w (ℕ-discrete (w .0) i);
-            };
+            completes-then (among-more i (i + 1) (omega arith)) (among-last i (i + 1) (f .from) (omega arith))
+            (λ k w. either k w (ℕ-discrete (w .0) i)) (f .visited) g;
       }
     where
-      step : (k : ℕ) (w : Among first (i + 1) Wanted k) → Dec (w .0 ≡ i) → Holds l c k
-      step k w (yes d) = g .complete k (subst (λ j. Wanted j k) d (w .3))
-      step k w (no d) = holds-kept (g .grows) (f .visited .complete k (w .0, w .1, omega (arith, w .2), w .3))
+      either : (k : ℕ) (w : Among first (i + 1) Wanted k) → Dec (w .0 ≡ i) → Among first i Wanted k ⊎ Wanted i k
+      either k w (yes d) = inr (subst (λ j. Wanted j k) d (w .3))
+      either k w (no d) = inl (w .0, w .1, omega (arith, w .2), w .3)
 
   -- a key wanted at this place has no room
   pub passed-overflows : {n m i : ℕ} {a b c : List ℕ} → i < end → Passed first end Wanted i n a m b → Overflows (Wanted i) m b c
       → Overflows (Among first end Wanted) n a c
-  unfolding capacity
-  passed-overflows {m = m} {i} {a} {b} {c} h f o =
-      let same : capacity b ≡ capacity a = ap (λ n. n / entryWidth) (f .visited .grows .long) in
-      record {
-        grows =
-            grows-then (among-more i end (omega arith)) (among-last i end (f .from) h) (f .visited .grows)
-            (subst (λ x. Grows (Wanted i) m b x c) same (o .grows));
-        key = o .key;
-        wanted = among-last i end (f .from) h (o .key) (o .wanted);
-        missing = subst (λ x. Holds x c (o .key) → ⊥) same (o .missing);
-      }
+  passed-overflows {i = i} h f o =
+      overflows-then (among-more i end (omega arith)) (among-last i end (f .from) h) (f .visited) o
 
   pub passed-all : {n m i : ℕ} {a b : List ℕ} → end ≤ i → Passed first end Wanted i n a m b
       → Completes (Among first end Wanted) n a m b

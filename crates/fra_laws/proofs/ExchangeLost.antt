@@ -17,7 +17,7 @@ use Rattle.fra.specs.declared.Task.{Task}
 use Rattle.fra_laws.proofs.Tests.{same-test}
 use Rattle.fra_laws.proofs.Lists.{flatMap-elim}
 use Rattle.fra_laws.proofs.Closure.{closure-keeps}
-use Rattle.fra_laws.proofs.Legal.{after-legal, successors-legal}
+use Rattle.fra_laws.proofs.LegalRounds.{after-legal, successors-legal}
 use Rattle.fra_laws.proofs.Reached.{successors-intro}
 use Rattle.fra_laws.proofs.Lost.{Winnable, lost-at-once, lost-step}
 use Rattle.fra_laws.proofs.ExchangePositions.{turned-legal, exchanged-valid, turned-twice, exchanged-twice, mirrored-twice}

@@ -14,7 +14,7 @@ use Rattle.fra.specs.declared.Task.{Task}
 use Rattle.fra.specs.declared.Side.{Side}
 use Rattle.fra.specs.declared.Side.the-variants.{Left, Right}
 use Rattle.fra_laws.proofs.Legal.{registers-exist, Legal, legal-facts, legal-intro}
-use Rattle.fra_laws.proofs.Successors.{other-other}
+use Rattle.fra_laws.proofs.Pairs.{other-other}
 use Rattle.fra_laws.proofs.Weaker.{same-rules}
 use Rattle.fra_laws.proofs.ExchangeMatchings.{Turned, turned-one-way, turned-matching, turned-partner}
 use Rattle.fra_laws.proofs.ExchangeMatchings.{turned-length, turned-from, turned-round}

@@ -26,7 +26,7 @@ use Rattle.fra.specs.declared.Attack.{Attack}
 use Rattle.fra_laws.proofs.KeptLists.{keep-same}
 use Rattle.fra_laws.proofs.AttackMembers.{attacks-intro, attacks-elim}
 use Rattle.fra_laws.proofs.Legal.{valid-side, legal-facts, legal-intro, attack-edge-exists, reply-edge-exists, moved-legal}
-use Rattle.fra_laws.proofs.Successors.{other-other}
+use Rattle.fra_laws.proofs.Pairs.{other-other}
 use Rattle.fra_laws.proofs.ExchangeMatchings.{turned-length, matched-turned}
 use Rattle.fra_laws.proofs.ExchangePositions.{partners-turned, partner-turned}
 

@@ -1,20 +1,22 @@
--- What it means that a position is legal, and that rounds lead from legal positions to legal ones, for any register count
--- and any rules. Assumes nothing.
+-- What it means that a position is legal, and that a left and a right edge into states that exist lead to a legal one, for any
+-- register count. Assumes nothing.
 use Prim.Native.Nat.{ℕ, _≤_, _<_}
-use mathlib.Core.Path.{_≡_, subst}
+use mathlib.Core.Path.{_≡_, sym, subst}
+use mathlib.Core.Logic.{_⊎_, inl, inr}
 use mathlib.Core.Bool.{true}
-use mathlib.Core.List.{map, Memᴰ·of-map}
 use native.Mathlib.Omega.{arith}
 use lib.ListN.{length}
+use lib.Dec.{eqb}
 use borrow.Author.Tests.{ltb-true, lt-ltb, eqb-true, eq-eqb}
 use Rattle.fra.specs.Lists.{_∈_}
-use Rattle.fra.specs.Registers.{has}
+use Rattle.fra.specs.Registers.{has, with}
 use Rattle.fra.specs.Model.{setOf, registerOf}
-use Rattle.fra.specs.Rules.{Rules, other, leftOf, rightOf, modelOf}
+use Rattle.fra.specs.Rules.{Rules, other, modelOf}
 use Rattle.fra.specs.Position.{stateOf, filled, partner, leftPartner, legal}
-use Rattle.fra.specs.Game.{attackEdge, replyEdge, attacks, replies, moved, after}
-use Rattle.fra.specs.Reach.{successors}
-use Rattle.fra.specs.Valid.{ValidModel, Valid}
+use Rattle.fra.specs.Game.{attacks, replies, moved}
+use Rattle.fra.specs.Valid.{RegisterRule, ValidModel, Valid}
+use Rattle.fra.specs.declared.EdgeKind.{EdgeKind}
+use Rattle.fra.specs.declared.EdgeKind.the-variants.{Known, LocallyFresh, GloballyFresh}
 use Rattle.fra.specs.declared.Edge.{Edge}
 use Rattle.fra.specs.declared.Model.{Model}
 use Rattle.fra.specs.declared.Position.{Position}
@@ -22,8 +24,7 @@ use Rattle.fra.specs.declared.Task.{Task}
 use Rattle.fra.specs.declared.Side.{Side}
 use Rattle.fra.specs.declared.Side.the-variants.{Left, Right}
 use Rattle.fra.specs.declared.Attack.{Attack}
-use Rattle.fra_laws.proofs.Tests.{and-left, and-right}
-use Rattle.fra_laws.proofs.Lists.{flatMap-elim}
+use Rattle.fra_laws.proofs.Tests.{and-left, and-right, or-cases}
 use Rattle.fra_laws.proofs.Registers.{has-positive, Matching, matching-facts, matching-intro, left-partner-sound, left-of-right, matched-length, matched-matching}
 use Rattle.fra_laws.proofs.AttackMembers.{attack-at, reply-at}
 
@@ -38,6 +39,21 @@ pub registers-exist : {r : ℕ} {m : Model} → ValidModel r m → (q i : ℕ) �
     → (1 ≤ i) × (i ≤ r)
 registers-exist {m = m} v q i h e =
     (has-positive (setOf m q) i e, omega (arith, v .states q h .existing i e, v .registers))
+
+with-other : (set i j : ℕ) → with set i j ≡ true → (j ≡ i → ⊥) → has set j ≡ true
+unfolding with
+with-other set i j h d = step (or-cases (has set j) (eqb i j) h)
+  where
+    step : (has set j ≡ true) ⊎ (eqb i j ≡ true) → has set j ≡ true
+    step (inl e) = e
+    step (inr e) = absurd (d (sym (eqb-true i j e)))
+
+-- of the registers in the to set, those other than the edge's were in the from set
+pub held-before : (from to : ℕ) (κ : EdgeKind) → RegisterRule from to κ → (i : ℕ) → has to i ≡ true → (i ≡ registerOf κ → ⊥)
+    → has from i ≡ true
+held-before from to (Known j) rule i h d = rule .1 i h
+held-before from to (LocallyFresh j) rule i h d = with-other from j i (rule i h) d
+held-before from to (GloballyFresh j) rule i h d = with-other from j i (rule i h) d
 
 -- ── Legal positions ──
 
@@ -104,27 +120,3 @@ moved-legal {t = t} {p = p} h l e a b =
     exists : (s : Side) → stateOf (moved t p l e) s < modelOf t s .«state_count»
     exists Left = a
     exists Right = b
-
-module _ {r : ℕ} {t : Task} (valid : Valid r t) where
-  -- an attack and a reply lead from a legal position to a legal one
-  pub after-legal : (g : Rules) (p : Position) (a : Attack) (k : ℕ) → legal r t p ≡ true → a ∈ attacks g t p
-      → k ∈ replies t p a → legal r t (after t p a k) ≡ true
-  unfolding after
-  after-legal g p a k h m n =
-      legal-intro r t (after t p a k)
-      (step (a .side) (attackEdge t a) (replyEdge t a k)
-      (valid-side valid (a .side) .edges (a .edge) (attack-edge-exists g t p a m) .to)
-      (valid-side valid (other (a .side)) .edges k (reply-edge-exists t p a k n) .to))
-    where
-      step : (s : Side) (own others : Edge) → own .to < modelOf t s .«state_count»
-          → others .to < modelOf t (other s) .«state_count»
-          → Legal r t (moved t p (leftOf s own others) (rightOf s own others))
-      step Left own others b c = moved-legal (legal-facts r t p h) own others b c
-      step Right own others b c = moved-legal (legal-facts r t p h) others own c b
-
-  pub successors-legal : (g : Rules) (p q : Position) → legal r t p ≡ true → q ∈ successors g t p → legal r t q ≡ true
-  unfolding successors
-  successors-legal g p q h m =
-      let v = flatMap-elim (λ a. map (after t p a) (replies t p a)) (attacks g t p) m in
-      let w = Memᴰ·of-map (after t p (v .0)) (replies t p (v .0)) (v .2) in
-      rw (w .2) at (after-legal g p (v .0) (w .0) h (v .1) (w .1))

@@ -93,6 +93,19 @@ module _ {A : Type 0} where
         λ y n d. ⊎-elim (λ s. List·Memᴰ·head s) (λ k. List·Memᴰ·tail (w .2 y k d)) (List·Memᴰ·cases-cons n),
       )
 
+  -- ── Lists without duplicates ──
+
+  -- a function that tells the elements of a list apart
+  pub map-unique : {B : Type 0} (f : A → B) (l : List A) → ((a b : A) → a ∈ l → b ∈ l → f a ≡ f b → a ≡ b) → Unique l
+      → Unique (map f l)
+  map-unique f [] apart u = tt
+  map-unique f (x ∷ xs) apart u = (
+    λ m.
+        let w = Memᴰ·of-map f xs m in
+        u .0 (Memᴰ·cast (sym (apart (w .0) x (List·Memᴰ·tail (w .1)) (List·Memᴰ·head refl) (w .2))) (w .1)),
+    map-unique f xs (λ a b m n. apart a b (List·Memᴰ·tail m) (List·Memᴰ·tail n)) (u .1),
+  )
+
   -- ── The pigeonhole principle ──
 
   pub unique-length : (l m : List A) → Unique l → ((x : A) → x ∈ l → x ∈ m) → length l ≤ length m

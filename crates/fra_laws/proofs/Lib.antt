@@ -12,11 +12,13 @@ pub mod KindNumbers
 pub mod Registers
 pub mod AttackMembers
 pub mod Legal
+pub mod LegalRounds
 pub mod LegalPositions
 pub mod Reached
 pub mod Lost
 pub mod Ranks
 pub mod Bisimulation
+pub mod Pairs
 pub mod Successors
 pub mod Weaker
 pub mod ReachedAlike

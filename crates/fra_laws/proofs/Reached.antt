@@ -19,7 +19,8 @@ use Rattle.fra.specs.declared.Attack.{Attack}
 use Rattle.fra_laws.proofs.Lists.{flatMap-intro}
 use Rattle.fra_laws.proofs.Lengths.{unique-length}
 use Rattle.fra_laws.proofs.Closure.{Computes, closed-computes, closure-keeps, rising-unique}
-use Rattle.fra_laws.proofs.Legal.{legal-facts, successors-legal}
+use Rattle.fra_laws.proofs.Legal.{legal-facts}
+use Rattle.fra_laws.proofs.LegalRounds.{successors-legal}
 use Rattle.fra_laws.proofs.LegalPositions.{injections-power, legal-count}
 
 -- an attack and its reply lead to a successor

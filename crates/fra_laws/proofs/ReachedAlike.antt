@@ -12,7 +12,7 @@ use Rattle.fra.specs.declared.Position.{Position}
 use Rattle.fra.specs.declared.Task.{Task}
 use Rattle.fra.specs.declared.Side.{Side}
 use Rattle.fra_laws.proofs.Closure.{closure-keeps}
-use Rattle.fra_laws.proofs.Legal.{successors-legal}
+use Rattle.fra_laws.proofs.LegalRounds.{successors-legal}
 use Rattle.fra_laws.proofs.Successors.{successors-by-pairs}
 
 module _ {r : ℕ} {t : Task} (valid : Valid r t) where

@@ -30,7 +30,7 @@ use Rattle.fra_laws.proofs.Lists.{any-witness, any-none, any-equal, none-equal,
 use Rattle.fra_laws.proofs.Lengths.{count-length}
 use Rattle.fra_laws.proofs.AttackMembers.{Within, AttackAt, attack-at, is-attack}
 use Rattle.fra_laws.proofs.Legal.{valid-side, registers-exist}
-use Rattle.fra_laws.proofs.Successors.{other-other}
+use Rattle.fra_laws.proofs.Pairs.{other-other}
 use Rattle.numbers.specs.Numbers.{Setting, readerOf, Takes, Choice}
 use Rattle.numbers_laws.proofs.FiniteSets.{outside, pigeonhole}
 use Rattle.numbers_laws.proofs.Over.{HoldsAt, Lacks, Over, placed, unseen-lacks, partner-holds, not-unpartnered}

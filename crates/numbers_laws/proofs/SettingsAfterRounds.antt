@@ -5,13 +5,12 @@ use mathlib.Core.Logic.{_⊎_, inl, inr, _↔_}
 use mathlib.Core.Bool.{true}
 use mathlib.Core.List.{List, Memᴰ·cast}
 use native.Mathlib.Decide.{ℕ-discrete}
-use lib.Dec.{eqb}
-use borrow.Author.Tests.{eqb-true, eq-eqb, ne-eqb}
+use borrow.Author.Tests.{eq-eqb, ne-eqb}
 use Rattle.fra.specs.Lists.{_∈_, Unique}
-use Rattle.fra.specs.Registers.{has, with}
+use Rattle.fra.specs.Registers.{has}
 use Rattle.fra.specs.Model.{setOf, edgeOf, registerOf}
 use Rattle.fra.specs.Rules.{Rules, other, modelOf, leftOf, rightOf}
-use Rattle.fra.specs.Valid.{Valid, ValidEdge, RegisterRule}
+use Rattle.fra.specs.Valid.{Valid, ValidEdge}
 use Rattle.fra.specs.declared.EdgeKind.{EdgeKind}
 use Rattle.fra.specs.declared.EdgeKind.the-variants.{Known, LocallyFresh, GloballyFresh}
 use Rattle.fra.specs.declared.Edge.{Edge}
@@ -19,28 +18,12 @@ use Rattle.fra.specs.declared.Model.{Model}
 use Rattle.fra.specs.declared.Task.{Task}
 use Rattle.fra.specs.declared.Side.{Side}
 use Rattle.fra.specs.declared.Side.the-variants.{Left, Right}
-use Rattle.fra_laws.proofs.Tests.{or-cases}
-use Rattle.fra_laws.proofs.Legal.{valid-side}
+use Rattle.fra_laws.proofs.Legal.{valid-side, held-before}
 use Rattle.numbers.specs.Numbers.{Reader, Holds, Setting, readerOf, Placed, IsSetting, Takes, Open, stored, taken, joined, played, Choice, Reply, afterReply}
 use Rattle.numbers_laws.proofs.FiniteSets.{joined-set}
 use Rattle.numbers_laws.proofs.Over.{placed}
 
 -- ── One reader ──
-
-with-other : (set i j : ℕ) → with set i j ≡ true → (j ≡ i → ⊥) → has set j ≡ true
-unfolding with
-with-other set i j h d = step (or-cases (has set j) (eqb i j) h)
-  where
-    step : (has set j ≡ true) ⊎ (eqb i j ≡ true) → has set j ≡ true
-    step (inl e) = e
-    step (inr e) = absurd (d (sym (eqb-true i j e)))
-
--- of the registers in the to set, those other than the edge's were in the from set
-inside : (from to : ℕ) (κ : EdgeKind) → RegisterRule from to κ → (i : ℕ) → has to i ≡ true → (i ≡ registerOf κ → ⊥)
-    → has from i ≡ true
-inside from to (Known j) rule i h d = rule .1 i h
-inside from to (LocallyFresh j) rule i h d = with-other from j i (rule i h) d
-inside from to (GloballyFresh j) rule i h d = with-other from j i (rule i h) d
 
 stored-elsewhere : (κ : EdgeKind) (n : ℕ) (f : ℕ → ℕ) (i : ℕ) → (i ≡ registerOf κ → ⊥) → stored κ n f i ≡ f i
 unfolding stored
@@ -88,7 +71,7 @@ module _ (m : Model) (x : Reader) (history : List ℕ) where
 
         filled-before : has (setOf m (e .to)) i ≡ true → (i ≡ registerOf (e .kind) → ⊥) → has (setOf m (x .state)) i ≡ true
         filled-before f d =
-            rw (← able .starts) (inside (setOf m (e .from)) (setOf m (e .to)) (e .kind) (able .valid .rule) i f d)
+            rw (← able .starts) (held-before (setOf m (e .from)) (setOf m (e .to)) (e .kind) (able .valid .rule) i f d)
 
         to : Dec (i ≡ registerOf (e .kind)) → Holds m (taken e n x) i k → (has (setOf m (e .to)) i ≡ true) × Kept m x e n i k
         to (yes q) h = (h .filled, inl (q, sym (h .holds) ∙ there q))

@@ -19,7 +19,7 @@ use Rattle.fra.specs.declared.Attack.{Attack}
 use Rattle.fra_laws.proofs.Lists.{keep-intro, keep-elim, map-undone}
 use Rattle.fra_laws.proofs.Order.{keep-rising}
 use Rattle.fra_laws.proofs.Closure.{Computes}
-use Rattle.fra_laws.proofs.Legal.{after-legal}
+use Rattle.fra_laws.proofs.LegalRounds.{after-legal}
 use Rattle.fra_laws.proofs.Reached.{enough-computes, reached-exactly, reached-start, reached-after, reached-rising}
 use Rattle.fra_laws.proofs.Ranks.{Closed, lost-ranked, rank-exactly, rank-never, rank-at-most-length}
 use Rattle.outcome.specs.Certificate.{Loss, placeOf, isNever, keptPositions, chosen, attackOf, attackLeads, lossStep, lossWith, lossOf, losses}

@@ -9,11 +9,12 @@
 #include <stdio.h>
 #include <string.h>
 
-enum { TASK_BYTES = 4096, ENTRIES = 4000 };
+/* As much as `compare` lends. */
+enum { TASK_BYTES = 4096, ENTRIES = 4000, CERTIFICATE_BYTES = 64000 };
 
 static uint8_t task[TASK_BYTES + 1]; /* one more, so that a longer file shows */
 static uint8_t table[ENTRIES * NULDOPA_ENTRY_BYTES];
-static uint8_t certificate[ENTRIES * NULDOPA_LOST_BYTES];
+static uint8_t certificate[CERTIFICATE_BYTES];
 
 static void print_bytes(const uint8_t *bytes, size_t count)
 {
@@ -41,15 +42,17 @@ static int keeps(uint32_t verdict)
     return verdict == NULDOPA_EQUAL || verdict == NULDOPA_FOLLOWS;
 }
 
-/* Two states and six partners; for a lost position then side, edge, case and rounds. */
+/* A position's bytes; for a lost one then side, edge and case, and rounds. */
 static void print_record(const uint8_t *record)
 {
+    enum { ATTACK_BYTES = 3 };
     int kept = keeps(record[0]);
+    size_t shown = kept ? NULDOPA_POSITION_BYTES : NULDOPA_POSITION_BYTES + ATTACK_BYTES;
     printf(kept ? "KEPT" : "LOST");
-    print_bytes(record + 1, kept ? 8 : 11);
+    print_bytes(record + 1, shown);
     if (!kept) {
         uint32_t rounds = 0;
-        for (int i = 12; i < 16; i++)
+        for (size_t i = 1 + shown; i < NULDOPA_LOST_BYTES; i++)
             rounds = rounds << 8 | record[i];
         printf(" %" PRIu32, rounds);
     }

@@ -9,17 +9,19 @@
 #[path = "../wrapper/src/lib.rs"]
 mod nuldopa;
 
-use nuldopa::{records, Game, ENTRY_LENGTH, LOST_LENGTH};
+use nuldopa::{records, Game, ENTRY_LENGTH};
 use std::process::ExitCode;
 use std::{env, fs};
 
+/// As much as `compare` lends.
 const TASK_BYTES: usize = 4096;
 const ENTRIES: usize = 4000;
+const CERTIFICATE_BYTES: usize = 64_000;
 
 /// Prints the answer and returns the certificate, which is empty after a refusal.
 fn answer(game: Game, task: &[u8]) -> Vec<u8> {
     let mut table = [0; ENTRIES * ENTRY_LENGTH];
-    let mut certificate = vec![0; ENTRIES * LOST_LENGTH];
+    let mut certificate = vec![0; CERTIFICATE_BYTES];
     match game.compare(task, &mut table, &mut certificate) {
         Err(refusal) => {
             println!("REFUSED {}", refusal.number());

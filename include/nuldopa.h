@@ -1,10 +1,15 @@
 /* Nuldopa: compares two reader models, and checks certificates. The C boundary of the static library libexports.a.
  *
- * A task is a file of two reader models, left and right, and a matching. There are two games. In the first either side
- * attacks: a comparison answers EQUAL or DIFFER. In the one-way game only the left side attacks: a comparison answers FOLLOWS
- * or FALLS SHORT. With the answer come a table of the positions reached and a certificate, or else one of the numbered
- * refusals. What is returned, and what the buffers then hold, is proved to be what the scope paper says, for every content
- * and every length of the buffers.
+ * A task is a file of two reader models, left and right, a matching, and the history's size where it is stated. There are two
+ * games. In the first either side attacks: a comparison answers EQUAL or DIFFER. In the one-way game only the left side
+ * attacks: a comparison answers FOLLOWS or FALLS SHORT. With the answer come a table of the positions reached and a
+ * certificate, or else one of the numbered refusals. What is returned, and what the buffers then hold, is proved to be what the
+ * scope paper says, for every content and every length of the buffers.
+ *
+ * The history is all object numbers that either reader has seen. A record of kind 5, one byte after the pairs, states how many
+ * there are at the start, 0 for a layout begun from scratch. A size of 13 means 13 or more, and that is what a task without the
+ * record has: two readers of six registers hold at most 12 numbers together, so from there on one that was seen before and that
+ * neither holds is always there.
  *
  * Proved of nuldopa_compare, nuldopa_check and both functions of the one-way game, but assumed of their caller: each pointer
  * leads to as many bytes as its length says (all of which hold a value), is not null even where the length is 0, and no byte
@@ -27,12 +32,19 @@
 extern "C" {
 #endif
 
-/* Sizes in bytes, and the most positions that any task reaches. */
+/* Sizes in bytes. */
 enum {
-    NULDOPA_ENTRY_BYTES = 12, /* a table entry: position, then rounds */
-    NULDOPA_KEPT_BYTES = 9,   /* a certificate record of EQUAL or FOLLOWS: kind, position */
-    NULDOPA_LOST_BYTES = 16,  /* one of DIFFER or FALLS SHORT: kind, position, side, edge, case, rounds */
-    NULDOPA_MOST_POSITIONS = 3411712
+    NULDOPA_POSITION_BYTES = 9, /* left state, right state, partners of left registers 1 to 6, history size */
+    NULDOPA_ENTRY_BYTES = 13,   /* a table entry: position, then rounds */
+    NULDOPA_KEPT_BYTES = 10,    /* a certificate record of EQUAL or FOLLOWS: kind, position */
+    NULDOPA_LOST_BYTES = 17     /* one of DIFFER or FALLS SHORT: kind, position, side, edge, case, rounds */
+};
+
+/* The greatest history size, and the most positions that tasks reach. */
+enum {
+    NULDOPA_MOST_SEEN = 13,                     /* 13 numbers or more */
+    NULDOPA_MOST_POSITIONS_OF_A_SIZE = 3411712, /* a task that starts with NULDOPA_MOST_SEEN reaches no other size */
+    NULDOPA_MOST_POSITIONS = 47763968           /* with all 14 sizes */
 };
 
 /* Verdicts: the kinds of their certificates' records. EQUAL gives FOLLOWS, for the task and for the one with its sides
@@ -44,9 +56,10 @@ enum {
     NULDOPA_FALLS_SHORT = 19 /* who chooses left's fields can force left end mark 1 and right 0, or a missing reply */
 };
 
-/* Refusals, in checking order; in one record of a task the lowest number counts. */
+/* Refusals. Those of a task's record come first, 1 to 10 and 15; in one record the lowest number counts. Then 11 and 12, or
+ * 13 and 14, in this order. */
 enum {
-    NULDOPA_UNKNOWN_RECORD = 1,       /* a kind byte is not 1, 2, 3, 4 or 15 */
+    NULDOPA_UNKNOWN_RECORD = 1,       /* a kind byte is not 1, 2, 3, 4, 5 or 15 */
     NULDOPA_TASK_CUT = 2,             /* the task ends inside a body or without an end record */
     NULDOPA_RECORD_MISPLACED = 3,     /* the record is not allowed at this place */
     NULDOPA_BAD_HEADER = 4,           /* more than 6 registers, 0 or more than 16 states, or no such start state */
@@ -58,8 +71,9 @@ enum {
     NULDOPA_BAD_PAIR = 10,            /* a register outside a start state's set, not rising, or a right register again */
     NULDOPA_TABLE_TOO_SMALL = 11,     /* the positions reached outnumber the table's entries */
     NULDOPA_BUFFER_TOO_SMALL = 12,    /* the certificate is longer than its buffer */
-    NULDOPA_CERTIFICATE_ILL_FORMED = 13,  /* an unknown kind, two kinds, a cut body, an illegal position, or not rising */
-    NULDOPA_CERTIFICATE_NOT_ACCEPTED = 14 /* well formed, and not accepted */
+    NULDOPA_CERTIFICATE_ILL_FORMED = 13,   /* an unknown kind, two kinds, a cut body, an illegal position, or not rising */
+    NULDOPA_CERTIFICATE_NOT_ACCEPTED = 14, /* well formed, and not accepted */
+    NULDOPA_BAD_HISTORY = 15 /* a history size above 13, or less than the numbers that the start states hold together */
 };
 
 /* Refusals of the functions nuldopa_try_... alone, which the proved functions never give. */
@@ -82,19 +96,21 @@ struct nuldopa_answer {
 /* Compares the two models of a task.
  *
  * task         the task file's bytes; only read
- * table        where the comparison works. Each 12 bytes are an entry, spare bytes at the end make none. What it holds at
- *              entry does not matter. 12 * NULDOPA_MOST_POSITIONS bytes (41 MB) are enough for every task; with less than 12
- *              every task that is read meets 11
- * certificate  where the certificate goes. 16 bytes for each table entry are always enough; with less than 9 every task that
+ * table        where the comparison works. Each 13 bytes are an entry, spare bytes at the end make none. What it holds at
+ *              entry does not matter. 13 * NULDOPA_MOST_POSITIONS_OF_A_SIZE bytes (44 MB) are enough for every task without
+ *              a record of kind 5. Where it states the size n, sizes n to 13 can be reached, and 14 - n times as much is
+ *              enough: for every task 13 * NULDOPA_MOST_POSITIONS bytes (621 MB). With less than 13 every task that is read
+ *              meets 11
+ * certificate  where the certificate goes. 17 bytes for each table entry are always enough; with less than 10 every task that
  *              has room in the table meets 12
  *
- * A verdict (refusal 0): the table holds the positions reached, rising by their 8 bytes (left state, right state, partners
- * of left registers 1 to 6), each followed by its rounds, 4 bytes, high byte first, FF FF FF FF if it is never lost; then
- * zeros up to the table's end. The first `length` bytes of the certificate buffer are the certificate, the rest is as it
- * was. EQUAL lists every reached position that is never lost, rising; DIFFER the start and all positions that its attacks
- * lead to, rising, each with an attack (side, edge, case, all 0 in rounds 0) and rounds, 4 bytes, high byte first.
+ * A verdict (refusal 0): the table holds the positions reached, rising by their 9 bytes (left state, right state, partners
+ * of left registers 1 to 6, history size), each followed by its rounds, 4 bytes, high byte first, FF FF FF FF if it is never
+ * lost; then zeros up to the table's end. The first `length` bytes of the certificate buffer are the certificate, the rest
+ * is as it was. EQUAL lists every reached position that is never lost, rising; DIFFER the start and all positions that its
+ * attacks lead to, rising, each with an attack (side, edge, case, all 0 in rounds 0) and rounds, 4 bytes, high byte first.
  *
- * Refusals 1 to 10: the table and the certificate buffer are as they were.
+ * Refusals 1 to 10 and 15 (nuldopa_is_of_a_record): the table and the certificate buffer are as they were.
  * Refusals 11 and 12: the table is all zeros, the certificate buffer as it was.
  * Refusals 13 and 14 are not given.
  */
@@ -123,8 +139,8 @@ struct nuldopa_answer nuldopa_compare_one_way(const uint8_t *task, size_t task_l
  * start, rounds 0 has differing end marks and zero fields, and otherwise the attack exists and each reply leads to a listed
  * position of fewer rounds. The certificates that nuldopa_compare writes are accepted.
  *
- * Refusals 1 to 10 are about the task, 13 and 14 about the certificate; 11 and 12 are not given. Kinds 18 and 19 are unknown
- * here and meet 13. Nothing is written.
+ * Refusals 1 to 10 and 15 are about the task, 13 and 14 about the certificate; 11 and 12 are not given. Kinds 18 and 19 are
+ * unknown here and meet 13. Nothing is written.
  */
 struct nuldopa_answer nuldopa_check(const uint8_t *task, size_t task_length, const uint8_t *certificate,
                                     size_t certificate_length);
@@ -137,8 +153,16 @@ struct nuldopa_answer nuldopa_check(const uint8_t *task, size_t task_length, con
 struct nuldopa_answer nuldopa_check_one_way(const uint8_t *task, size_t task_length, const uint8_t *certificate,
                                             size_t certificate_length);
 
-/* The rest of this file is not proved but tested: what the functions above assume is tested first, as far as it can be.
- * Whether a pointer leads to as many bytes as its length says cannot be. */
+/* The rest of this file is not proved but tested. */
+
+/* Whether this is a refusal of a task's record, 1 to 10 and 15: then every buffer is as it was. */
+static inline int nuldopa_is_of_a_record(uint32_t refusal)
+{
+    return (refusal >= NULDOPA_UNKNOWN_RECORD && refusal <= NULDOPA_BAD_PAIR) || refusal == NULDOPA_BAD_HISTORY;
+}
+
+/* The functions nuldopa_try_... test what the functions above assume, as far as it can be. Whether a pointer leads to as many
+ * bytes as its length says cannot be. */
 
 static inline struct nuldopa_answer nuldopa_refused(uint32_t refusal)
 {

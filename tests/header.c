@@ -63,9 +63,15 @@ static uint8_t equal_task[] = {
     15};
 static uint8_t differing_task[sizeof equal_task], exchanged_task[sizeof equal_task];
 
+/* Case 2 with a history of size 0. */
+static uint8_t scratch_task[sizeof equal_task + 2];
+
+/* Bytes of the table of cases 1 and 2, and of their certificates. */
+enum { TABLE = 26, KEPT = 20, LOST = 17 };
+
 /* Certificates of cases 1 and 2 in either game, but for their kinds. */
-static uint8_t kept_certificate[] = {0, 0, 0, 0, 0, 0, 0, 0, 0, 0, 1, 1, 1, 0, 0, 0, 0, 0};
-static uint8_t lost_certificate[] = {0, 0, 0, 0, 0, 0, 0, 0, 0, 1, 0, 7, 0, 0, 0, 1};
+static uint8_t kept_certificate[] = {0, 0, 0, 0, 0, 0, 0, 0, 0, 13, 0, 1, 1, 1, 0, 0, 0, 0, 0, 13};
+static uint8_t lost_certificate[] = {0, 0, 0, 0, 0, 0, 0, 0, 0, 13, 1, 0, 7, 0, 0, 0, 1};
 
 static void put_kinds(uint8_t kept, uint8_t lost)
 {
@@ -73,8 +79,8 @@ static void put_kinds(uint8_t kept, uint8_t lost)
     lost_certificate[0] = lost;
 }
 
-static const uint8_t kept_table[] = {0, 0, 0, 0, 0, 0, 0, 0, 255, 255, 255, 255,
-                                      1, 1, 1, 0, 0, 0, 0, 0, 255, 255, 255, 255};
+static const uint8_t kept_table[] = {0, 0, 0, 0, 0, 0, 0, 0, 13, 255, 255, 255, 255,
+                                      1, 1, 1, 0, 0, 0, 0, 0, 13, 255, 255, 255, 255};
 
 /* Lent buffers, filled with 165 before each call; what is lent stands at their start. */
 static uint8_t table[64], certificate[64];
@@ -119,36 +125,61 @@ static void layout(void)
 
 static void constants(void)
 {
-    EXPECT(NULDOPA_ENTRY_BYTES == sizeof kept_table / 2);
-    EXPECT(NULDOPA_KEPT_BYTES == sizeof kept_certificate / 2);
-    EXPECT(NULDOPA_LOST_BYTES == sizeof lost_certificate);
-    /* 16 states a side, and as many matchings of 6 registers with 6. */
-    EXPECT(NULDOPA_MOST_POSITIONS == 16 * 16 * 13327);
+    EXPECT(NULDOPA_ENTRY_BYTES == sizeof kept_table / 2 && sizeof kept_table == TABLE);
+    EXPECT(NULDOPA_KEPT_BYTES == sizeof kept_certificate / 2 && sizeof kept_certificate == KEPT);
+    EXPECT(NULDOPA_LOST_BYTES == sizeof lost_certificate && sizeof lost_certificate == LOST);
+    EXPECT(NULDOPA_POSITION_BYTES == NULDOPA_KEPT_BYTES - 1);
+    /* One more than the registers of both readers. */
+    EXPECT(NULDOPA_MOST_SEEN == 2 * 6 + 1);
+    /* 16 states a side, and as many matchings of 6 registers with 6; sizes from 0 on. */
+    EXPECT(NULDOPA_MOST_POSITIONS_OF_A_SIZE == 16 * 16 * 13327);
+    EXPECT(NULDOPA_MOST_POSITIONS == (NULDOPA_MOST_SEEN + 1) * NULDOPA_MOST_POSITIONS_OF_A_SIZE);
     EXPECT(NULDOPA_NULL_BUFFER == 100 && NULDOPA_BUFFERS_OVERLAP == 101 && NULDOPA_LENGTH_TOO_LARGE == 102);
+}
+
+static void refusals_of_records(void)
+{
+    for (uint32_t refusal = 0; refusal <= NULDOPA_LENGTH_TOO_LARGE; refusal++)
+        EXPECT(nuldopa_is_of_a_record(refusal) == ((refusal >= 1 && refusal <= 10) || refusal == 15));
 }
 
 static void comparing(const struct game *game)
 {
     size_t n = sizeof equal_task;
     fill();
-    EXPECT(is(game->compare(equal_task, n, table, 30, certificate, 20), 0, game->kept, 2, 0, 18));
-    EXPECT(memcmp(table, kept_table, 24) == 0 && all(table + 24, 6, 0) && all(table + 30, 34, 165));
-    EXPECT(memcmp(certificate, kept_certificate, 18) == 0 && all(certificate + 18, 46, 165));
+    EXPECT(is(game->compare(equal_task, n, table, TABLE + 6, certificate, KEPT + 2), 0, game->kept, 2, 0, KEPT));
+    EXPECT(memcmp(table, kept_table, TABLE) == 0 && all(table + TABLE, 6, 0) && all(table + TABLE + 6, 32, 165));
+    EXPECT(memcmp(certificate, kept_certificate, KEPT) == 0 && all(certificate + KEPT, 44, 165));
     fill();
-    EXPECT(is(game->compare(differing_task, n, table, 24, certificate, 16), 0, game->lost, 2, 1, 16));
-    EXPECT(memcmp(certificate, lost_certificate, 16) == 0 && all(certificate + 16, 48, 165));
-    EXPECT(all(table + 8, 3, 0) && table[11] == 1 && all(table + 24, 40, 165));
+    EXPECT(is(game->compare(differing_task, n, table, TABLE, certificate, LOST), 0, game->lost, 2, 1, LOST));
+    EXPECT(memcmp(certificate, lost_certificate, LOST) == 0 && all(certificate + LOST, 47, 165));
+    EXPECT(all(table + 9, 3, 0) && table[12] == 1 && all(table + TABLE, 38, 165));
+}
+
+/* From a history of no number nothing was seen before that the right reader could fail to take. The sizes are the last bytes of
+ * positions: 0, and 1 after the first number. */
+static void small_history(const struct game *game)
+{
+    size_t n = sizeof scratch_task;
+    EXPECT(is(game->compare(scratch_task, n, table, TABLE, certificate, KEPT), 0, game->kept, 2, 0, KEPT));
+    EXPECT(table[8] == 0 && table[NULDOPA_ENTRY_BYTES + 8] == 1);
+    EXPECT(certificate[9] == 0 && certificate[NULDOPA_KEPT_BYTES + 9] == 1);
+    EXPECT(is(game->check(scratch_task, n, certificate, KEPT), 0, game->kept, 0, 0, 0));
+    EXPECT(refused(game->check(scratch_task, n, kept_certificate, KEPT), NULDOPA_CERTIFICATE_NOT_ACCEPTED));
+    EXPECT(refused(game->check(differing_task, n - 2, certificate, KEPT), NULDOPA_CERTIFICATE_NOT_ACCEPTED));
+    certificate[9] = NULDOPA_MOST_SEEN + 1;
+    EXPECT(refused(game->check(scratch_task, n, certificate, KEPT), NULDOPA_CERTIFICATE_ILL_FORMED));
 }
 
 static void too_little_lent(const struct game *game)
 {
     size_t n = sizeof equal_task;
     fill();
-    EXPECT(refused(game->compare(equal_task, n, table, 23, certificate, 18), NULDOPA_TABLE_TOO_SMALL));
-    EXPECT(all(table, 23, 0) && all(table + 23, 41, 165) && all(certificate, 64, 165));
+    EXPECT(refused(game->compare(equal_task, n, table, 25, certificate, 20), NULDOPA_TABLE_TOO_SMALL));
+    EXPECT(all(table, 25, 0) && all(table + 25, 39, 165) && all(certificate, 64, 165));
     fill();
-    EXPECT(refused(game->compare(equal_task, n, table, 24, certificate, 17), NULDOPA_BUFFER_TOO_SMALL));
-    EXPECT(all(table, 24, 0) && all(table + 24, 40, 165) && all(certificate, 64, 165));
+    EXPECT(refused(game->compare(equal_task, n, table, 26, certificate, 19), NULDOPA_BUFFER_TOO_SMALL));
+    EXPECT(all(table, 26, 0) && all(table + 26, 38, 165) && all(certificate, 64, 165));
     fill();
     EXPECT(refused(game->compare(equal_task, n, table, 0, certificate, 0), NULDOPA_TABLE_TOO_SMALL) && untouched());
 }
@@ -184,27 +215,30 @@ static void refused_tasks(const struct game *game)
         {NULDOPA_REGISTER_RULE_BROKEN, 14, {1, 1, 1, 0, 2, 0, 0, 0, 3, 0, 0, 0, 1, 0}},
         {NULDOPA_EDGE_NOT_RISING, 20, {1, 1, 1, 0, 2, 0, 1, 0, 3, 0, 0, 0, 1, 0, 3, 0, 0, 0, 1, 0}},
         {NULDOPA_BAD_PAIR, 19, {1, 1, 1, 0, 2, 0, 1, 0, 1, 1, 1, 0, 2, 0, 1, 0, 4, 1, 2}},
+        {NULDOPA_BAD_HISTORY, 18, {1, 0, 1, 0, 2, 0, 0, 0, 1, 0, 1, 0, 2, 0, 0, 0, 5, 14}},
+        {NULDOPA_BAD_HISTORY, 18, {1, 1, 1, 0, 2, 0, 1, 0, 1, 1, 1, 0, 2, 0, 1, 0, 5, 1}},
+        {NULDOPA_BAD_HISTORY, 21, {1, 1, 1, 0, 2, 0, 1, 0, 1, 1, 1, 0, 2, 0, 1, 0, 4, 1, 1, 5, 0}},
     };
     uint8_t large[512];
     size_t length = too_many_edges(large);
     fill();
     for (size_t i = 0; i < sizeof tasks / sizeof *tasks; i++) {
-        EXPECT(refused(game->compare(tasks[i].bytes, tasks[i].length, table, 24, certificate, 18), tasks[i].refusal));
-        EXPECT(refused(game->check(tasks[i].bytes, tasks[i].length, kept_certificate, 18), tasks[i].refusal));
+        EXPECT(refused(game->compare(tasks[i].bytes, tasks[i].length, table, TABLE, certificate, KEPT), tasks[i].refusal));
+        EXPECT(refused(game->check(tasks[i].bytes, tasks[i].length, kept_certificate, KEPT), tasks[i].refusal));
     }
-    EXPECT(refused(game->compare(large, length, table, 24, certificate, 18), NULDOPA_TOO_MANY_EDGES));
-    EXPECT(refused(game->check(large, length, kept_certificate, 18), NULDOPA_TOO_MANY_EDGES));
+    EXPECT(refused(game->compare(large, length, table, TABLE, certificate, KEPT), NULDOPA_TOO_MANY_EDGES));
+    EXPECT(refused(game->check(large, length, kept_certificate, KEPT), NULDOPA_TOO_MANY_EDGES));
     EXPECT(untouched());
 }
 
 static void checking(const struct game *game)
 {
     size_t n = sizeof equal_task;
-    EXPECT(is(game->check(equal_task, n, kept_certificate, 18), 0, game->kept, 0, 0, 0));
-    EXPECT(is(game->check(differing_task, n, lost_certificate, 16), 0, game->lost, 0, 1, 0));
-    EXPECT(refused(game->check(equal_task, n, lost_certificate, 16), NULDOPA_CERTIFICATE_NOT_ACCEPTED));
-    EXPECT(refused(game->check(equal_task, n, kept_certificate, 17), NULDOPA_CERTIFICATE_ILL_FORMED));
-    EXPECT(refused(game->check(equal_task, n, kept_certificate, 9), NULDOPA_CERTIFICATE_NOT_ACCEPTED));
+    EXPECT(is(game->check(equal_task, n, kept_certificate, KEPT), 0, game->kept, 0, 0, 0));
+    EXPECT(is(game->check(differing_task, n, lost_certificate, LOST), 0, game->lost, 0, 1, 0));
+    EXPECT(refused(game->check(equal_task, n, lost_certificate, LOST), NULDOPA_CERTIFICATE_NOT_ACCEPTED));
+    EXPECT(refused(game->check(equal_task, n, kept_certificate, KEPT - 1), NULDOPA_CERTIFICATE_ILL_FORMED));
+    EXPECT(refused(game->check(equal_task, n, kept_certificate, KEPT / 2), NULDOPA_CERTIFICATE_NOT_ACCEPTED));
     EXPECT(refused(game->check(equal_task, n, kept_certificate, 0), NULDOPA_CERTIFICATE_NOT_ACCEPTED));
 }
 
@@ -213,8 +247,8 @@ static void other_kinds(const struct game *game, const struct game *other)
 {
     size_t n = sizeof equal_task;
     put_kinds(other->kept, other->lost);
-    EXPECT(refused(game->check(equal_task, n, kept_certificate, 18), NULDOPA_CERTIFICATE_ILL_FORMED));
-    EXPECT(refused(game->check(differing_task, n, lost_certificate, 16), NULDOPA_CERTIFICATE_ILL_FORMED));
+    EXPECT(refused(game->check(equal_task, n, kept_certificate, KEPT), NULDOPA_CERTIFICATE_ILL_FORMED));
+    EXPECT(refused(game->check(differing_task, n, lost_certificate, LOST), NULDOPA_CERTIFICATE_ILL_FORMED));
     put_kinds(game->kept, game->lost);
 }
 
@@ -222,6 +256,7 @@ static void calls(const struct game *game, const struct game *other)
 {
     put_kinds(game->kept, game->lost);
     comparing(game);
+    small_history(game);
     too_little_lent(game);
     refused_tasks(game);
     checking(game);
@@ -231,32 +266,32 @@ static void calls(const struct game *game, const struct game *other)
 /* The right side's attack shows that G and P differ; only the left side attacks in the one-way game. */
 static void games_apart(void)
 {
-    static const uint8_t attack_of_right[] = {17, 0, 0, 0, 0, 0, 0, 0, 0, 2, 0, 7, 0, 0, 0, 1};
+    static const uint8_t attack_of_right[] = {17, 0, 0, 0, 0, 0, 0, 0, 0, 13, 2, 0, 7, 0, 0, 0, 1};
     size_t n = sizeof exchanged_task;
-    EXPECT(is(nuldopa_compare(exchanged_task, n, table, 24, certificate, 16), 0, NULDOPA_DIFFER, 2, 1, 16));
-    EXPECT(memcmp(certificate, attack_of_right, 16) == 0);
-    EXPECT(is(nuldopa_compare_one_way(exchanged_task, n, table, 24, certificate, 18), 0, NULDOPA_FOLLOWS, 2, 0, 18));
-    certificate[0] = certificate[9] = NULDOPA_EQUAL;
-    EXPECT(refused(nuldopa_check(exchanged_task, n, certificate, 18), NULDOPA_CERTIFICATE_NOT_ACCEPTED));
-    memcpy(certificate, attack_of_right, 16);
+    EXPECT(is(nuldopa_compare(exchanged_task, n, table, TABLE, certificate, LOST), 0, NULDOPA_DIFFER, 2, 1, LOST));
+    EXPECT(memcmp(certificate, attack_of_right, LOST) == 0);
+    EXPECT(is(nuldopa_compare_one_way(exchanged_task, n, table, TABLE, certificate, KEPT), 0, NULDOPA_FOLLOWS, 2, 0, KEPT));
+    certificate[0] = certificate[NULDOPA_KEPT_BYTES] = NULDOPA_EQUAL;
+    EXPECT(refused(nuldopa_check(exchanged_task, n, certificate, KEPT), NULDOPA_CERTIFICATE_NOT_ACCEPTED));
+    memcpy(certificate, attack_of_right, LOST);
     certificate[0] = NULDOPA_FALLS_SHORT;
-    EXPECT(refused(nuldopa_check_one_way(exchanged_task, n, certificate, 16), NULDOPA_CERTIFICATE_NOT_ACCEPTED));
+    EXPECT(refused(nuldopa_check_one_way(exchanged_task, n, certificate, LOST), NULDOPA_CERTIFICATE_NOT_ACCEPTED));
 }
 
 static void null_buffers(const struct game *game)
 {
     size_t n = sizeof equal_task;
     fill();
-    EXPECT(refused(game->compare(NULL, 1, table, 24, certificate, 18), NULDOPA_NULL_BUFFER));
-    EXPECT(refused(game->compare(equal_task, n, NULL, 24, certificate, 18), NULDOPA_NULL_BUFFER));
-    EXPECT(refused(game->compare(equal_task, n, table, 24, NULL, 1), NULDOPA_NULL_BUFFER));
-    EXPECT(refused(game->check(NULL, 1, kept_certificate, 18), NULDOPA_NULL_BUFFER));
+    EXPECT(refused(game->compare(NULL, 1, table, TABLE, certificate, KEPT), NULDOPA_NULL_BUFFER));
+    EXPECT(refused(game->compare(equal_task, n, NULL, TABLE, certificate, KEPT), NULDOPA_NULL_BUFFER));
+    EXPECT(refused(game->compare(equal_task, n, table, TABLE, NULL, 1), NULDOPA_NULL_BUFFER));
+    EXPECT(refused(game->check(NULL, 1, kept_certificate, KEPT), NULDOPA_NULL_BUFFER));
     EXPECT(refused(game->check(equal_task, n, NULL, 1), NULDOPA_NULL_BUFFER));
     EXPECT(untouched());
     /* Without a length it is an empty buffer. */
-    EXPECT(refused(game->compare(NULL, 0, table, 24, certificate, 18), NULDOPA_TASK_CUT) && untouched());
-    EXPECT(refused(game->compare(equal_task, n, NULL, 0, certificate, 18), NULDOPA_TABLE_TOO_SMALL));
-    EXPECT(refused(game->compare(equal_task, n, table, 24, NULL, 0), NULDOPA_BUFFER_TOO_SMALL));
+    EXPECT(refused(game->compare(NULL, 0, table, TABLE, certificate, KEPT), NULDOPA_TASK_CUT) && untouched());
+    EXPECT(refused(game->compare(equal_task, n, NULL, 0, certificate, KEPT), NULDOPA_TABLE_TOO_SMALL));
+    EXPECT(refused(game->compare(equal_task, n, table, TABLE, NULL, 0), NULDOPA_BUFFER_TOO_SMALL));
     EXPECT(refused(game->compare(NULL, 0, NULL, 0, NULL, 0), NULDOPA_TASK_CUT));
     EXPECT(refused(game->check(NULL, 0, NULL, 0), NULDOPA_TASK_CUT));
     EXPECT(refused(game->check(equal_task, n, NULL, 0), NULDOPA_CERTIFICATE_NOT_ACCEPTED));
@@ -271,20 +306,20 @@ static void overlapping_buffers(const struct game *game)
     memcpy(shared + 100, equal_task, n);
     fill();
     /* The task from byte 100 to 149, and a table or a certificate over its first or last byte, or all of it. */
-    EXPECT(refused(game->compare(shared + 100, n, shared + 77, 24, certificate, 18), NULDOPA_BUFFERS_OVERLAP));
-    EXPECT(refused(game->compare(shared + 100, n, shared + 148, 24, certificate, 18), NULDOPA_BUFFERS_OVERLAP));
-    EXPECT(refused(game->compare(shared + 100, n, shared, 256, certificate, 18), NULDOPA_BUFFERS_OVERLAP));
-    EXPECT(refused(game->compare(shared + 100, n, table, 24, shared + 83, 18), NULDOPA_BUFFERS_OVERLAP));
-    EXPECT(refused(game->compare(shared + 100, n, table, 24, shared + 148, 18), NULDOPA_BUFFERS_OVERLAP));
-    EXPECT(refused(game->compare(equal_task, n, shared, 24, shared, 18), NULDOPA_BUFFERS_OVERLAP));
-    EXPECT(refused(game->compare(equal_task, n, shared, 24, shared + 23, 18), NULDOPA_BUFFERS_OVERLAP));
+    EXPECT(refused(game->compare(shared + 100, n, shared + 101 - TABLE, TABLE, certificate, KEPT), NULDOPA_BUFFERS_OVERLAP));
+    EXPECT(refused(game->compare(shared + 100, n, shared + 148, TABLE, certificate, KEPT), NULDOPA_BUFFERS_OVERLAP));
+    EXPECT(refused(game->compare(shared + 100, n, shared, 256, certificate, KEPT), NULDOPA_BUFFERS_OVERLAP));
+    EXPECT(refused(game->compare(shared + 100, n, table, TABLE, shared + 101 - KEPT, KEPT), NULDOPA_BUFFERS_OVERLAP));
+    EXPECT(refused(game->compare(shared + 100, n, table, TABLE, shared + 148, KEPT), NULDOPA_BUFFERS_OVERLAP));
+    EXPECT(refused(game->compare(equal_task, n, shared, TABLE, shared, KEPT), NULDOPA_BUFFERS_OVERLAP));
+    EXPECT(refused(game->compare(equal_task, n, shared, TABLE, shared + TABLE - 1, KEPT), NULDOPA_BUFFERS_OVERLAP));
     EXPECT(all(shared, 100, 165) && memcmp(shared + 100, equal_task, n) == 0 && all(shared + 149, 107, 165));
     EXPECT(untouched());
     /* Side by side, and empty inside another, is no overlap. */
-    EXPECT(game->compare(shared + 100, n, shared + 76, 24, shared + 149, 18).refusal == 0);
-    EXPECT(refused(game->compare(shared + 100, n, shared + 110, 0, certificate, 18), NULDOPA_TABLE_TOO_SMALL));
-    EXPECT(refused(game->compare(shared + 100, n, table, 24, shared + 110, 0), NULDOPA_BUFFER_TOO_SMALL));
-    EXPECT(refused(game->compare(shared + 10, 0, shared, 24, certificate, 18), NULDOPA_TASK_CUT));
+    EXPECT(game->compare(shared + 100, n, shared + 100 - TABLE, TABLE, shared + 149, KEPT).refusal == 0);
+    EXPECT(refused(game->compare(shared + 100, n, shared + 110, 0, certificate, KEPT), NULDOPA_TABLE_TOO_SMALL));
+    EXPECT(refused(game->compare(shared + 100, n, table, TABLE, shared + 110, 0), NULDOPA_BUFFER_TOO_SMALL));
+    EXPECT(refused(game->compare(shared + 10, 0, shared, TABLE, certificate, KEPT), NULDOPA_TASK_CUT));
     /* What is only read may overlap. */
     EXPECT(refused(game->check(shared + 100, n, shared + 100, n), NULDOPA_CERTIFICATE_ILL_FORMED));
 }
@@ -294,15 +329,15 @@ static void large_lengths(const struct game *game)
     size_t n = sizeof equal_task, large = (size_t)PTRDIFF_MAX + 1;
     uint8_t *last_page = (uint8_t *)(UINTPTR_MAX - 4095);
     fill();
-    EXPECT(refused(game->compare(equal_task, large, table, 24, certificate, 18), NULDOPA_LENGTH_TOO_LARGE));
-    EXPECT(refused(game->compare(equal_task, n, table, SIZE_MAX, certificate, 18), NULDOPA_LENGTH_TOO_LARGE));
-    EXPECT(refused(game->compare(equal_task, n, table, 24, certificate, large), NULDOPA_LENGTH_TOO_LARGE));
-    EXPECT(refused(game->compare(equal_task, n, last_page, 4096, certificate, 18), NULDOPA_LENGTH_TOO_LARGE));
-    EXPECT(refused(game->check(equal_task, large, kept_certificate, 18), NULDOPA_LENGTH_TOO_LARGE));
+    EXPECT(refused(game->compare(equal_task, large, table, TABLE, certificate, KEPT), NULDOPA_LENGTH_TOO_LARGE));
+    EXPECT(refused(game->compare(equal_task, n, table, SIZE_MAX, certificate, KEPT), NULDOPA_LENGTH_TOO_LARGE));
+    EXPECT(refused(game->compare(equal_task, n, table, TABLE, certificate, large), NULDOPA_LENGTH_TOO_LARGE));
+    EXPECT(refused(game->compare(equal_task, n, last_page, 4096, certificate, KEPT), NULDOPA_LENGTH_TOO_LARGE));
+    EXPECT(refused(game->check(equal_task, large, kept_certificate, KEPT), NULDOPA_LENGTH_TOO_LARGE));
     EXPECT(refused(game->check(equal_task, n, kept_certificate, SIZE_MAX), NULDOPA_LENGTH_TOO_LARGE));
     /* A null pointer comes first, and overlap last. */
-    EXPECT(refused(game->compare(equal_task, large, NULL, 24, certificate, 18), NULDOPA_NULL_BUFFER));
-    EXPECT(refused(game->compare(equal_task, n, equal_task, large, certificate, 18), NULDOPA_LENGTH_TOO_LARGE));
+    EXPECT(refused(game->compare(equal_task, large, NULL, TABLE, certificate, KEPT), NULDOPA_NULL_BUFFER));
+    EXPECT(refused(game->compare(equal_task, n, equal_task, large, certificate, KEPT), NULDOPA_LENGTH_TOO_LARGE));
     EXPECT(untouched());
 }
 
@@ -321,8 +356,11 @@ int main(void)
     differing_task[39] = 2;
     memcpy(exchanged_task, equal_task, sizeof equal_task);
     exchanged_task[15] = 2;
+    memcpy(scratch_task, differing_task, sizeof differing_task - 1);
+    memcpy(scratch_task + sizeof differing_task - 1, (const uint8_t[]){5, 0, 15}, 3);
     layout();
     constants();
+    refusals_of_records();
     calls(&plain, &plain_one_way);
     calls(&careful, &careful_one_way);
     calls(&plain_one_way, &plain);

@@ -1,7 +1,7 @@
 //! The Rust wrapper against the reference on generated tasks, in both games.
 use nuldopa::{Acceptance, Game, Record, Report, Verdict};
 use reference::compare::Solution;
-use reference::generate::{families::family, item};
+use reference::generate::{families::family, histories::stating, item};
 use reference::model::Task;
 use reference::rules::Rules;
 use reference::{baseline, task, text};
@@ -88,4 +88,11 @@ fn growing_tables() {
         let made = family(name, sizes).expect("a family");
         GAMES.into_iter().for_each(|played| agrees(played, &task::write(&made), &made));
     }
+}
+
+/// More than the 209 positions of one history size, and than the first table holds.
+#[test]
+fn growing_histories() {
+    let made = stating(family("dearest-equal", &[4]).expect("a family"), 8).expect("as many as its start states hold");
+    GAMES.into_iter().for_each(|played| agrees(played, &task::write(&made), &made));
 }

@@ -9,8 +9,8 @@ use std::path::{Path, PathBuf};
 use std::process::Command;
 
 /// A family with its sizes, and the positions that it reaches, so that what is too large is left out unmeasured. Where a game
-/// stands before it, that one is played.
-const FAMILIES: [(&str, usize); 18] = [
+/// stands before it, that one is played; where a history size stands after it, the task states it.
+const FAMILIES: [(&str, usize); 22] = [
     ("dearest 4", 209),
     ("dearest 5", 1_546),
     ("dearest 6", 13_327),
@@ -29,8 +29,13 @@ const FAMILIES: [(&str, usize); 18] = [
     ("one-way dearest-equal 5", 1_546),
     ("one-way rings 16 15", 240),
     ("one-way rings-fresh 12 11 5", 203_941),
+    ("dearest-equal 4 --history 8", 1_249),
+    ("dearest-equal 6 --history 12", 26_653),
+    ("rings-fresh 12 11 4 --history 8", 27_953),
+    ("ring-late 12 5 --history 10", 218_586),
 ];
 
+const HISTORY: &str = "--history";
 const ONE_WAY: &str = "one-way";
 const EQUALITY: &str = "equality";
 
@@ -132,7 +137,7 @@ impl Row {
 
 /// The columns, with their widths.
 const COLUMNS: [(&str, usize); 13] = [
-    ("family", 27),
+    ("family", 31),
     ("positions", 9),
     ("rounds", 6),
     ("passes", 6),
@@ -174,7 +179,7 @@ impl fmt::Display for Row {
             megabytes(library),
             megabytes(baseline),
         ];
-        write!(f, "| {:<27}", fields[0])?;
+        write!(f, "| {:<31}", fields[0])?;
         let numbers = fields.iter().zip(COLUMNS).skip(1);
         numbers.into_iter().try_for_each(|(field, (_, width))| write!(f, " | {field:>width$}"))?;
         f.write_str(" |")
@@ -215,8 +220,8 @@ fn main() -> Result<(), Failure> {
     rows.iter().for_each(|row| println!("{row}"));
     println!("\nSeconds on the processor, least of {} runs; megabytes of the whole process at its peak.", options.runs);
     if let Some(file) = options.picture {
-        // Points of the other game would stand among those of their families.
-        rows.retain(|row| row.game == EQUALITY);
+        // Points of the other game, and of small histories, would stand among those of their families.
+        rows.retain(|row| row.game == EQUALITY && !row.family.contains(HISTORY));
         std::fs::write(file, picture::draw(&rows))?;
     }
     Ok(())

@@ -5,15 +5,15 @@
 //! - Ranking goes over the positions in passes 1, 2 and so on, until a pass finds no further loss: one pass more than the
 //!   most rounds of a position that is lost. In pass k it takes the positions that are not lost in fewer than k rounds and
 //!   whose pair of states is open: from pass 2 on, a left and a right edge of one tag lead from it to the pair of states of
-//!   a position of k - 1 rounds. At each it tries attacks in order of side, edge and case, until one wins, but no new number
-//!   with a locally fresh edge (what was seen before has no reply that a new number has not); and for an attack its replies
-//!   by edge number, until one leads to a position that is not lost in fewer than k rounds. Each reply looked at is a pair
-//!   tried.
+//!   a position of k - 1 rounds. At each it tries attacks in order of side, edge and case, until one wins, but where the
+//!   history has its greatest size no new number with a locally fresh edge (what was seen before has no reply that a new
+//!   number has not, and leads to the same position then); and for an attack its replies by edge number, until one leads to a
+//!   position that is not lost in fewer than k rounds. Each reply looked at is a pair tried.
 //!
 //! Pass 0, sorting and writing the certificate are not counted; they are in the time.
 use reference::compare::NEVER_LOST;
 use reference::game::{attacks, replies, Attack, Position, CASE_NEW};
-use reference::model::{Kind, Task};
+use reference::model::{Kind, Task, MAX_HISTORY};
 use reference::rules::Rules;
 
 pub struct Tried {
@@ -22,33 +22,41 @@ pub struct Tried {
     pub ranking: u64,
 }
 
-/// The rounds of all positions reached, by a number that a position's bytes give.
+/// The rounds of all positions reached, by a number that a position's bytes give. Sizes count from the least one reached, so that
+/// a task that states none takes no more room than one size.
 struct Rounds {
     of: Vec<u8>,
+    least_size: u8,
 }
 
 /// Stands for NEVER_LOST in a byte; the families have fewer rounds.
 const NEVER: u8 = u8::MAX;
 
-fn place(position: &Position) -> usize {
-    let states = (position.left as usize) << 4 | position.right as usize;
-    position.partners.iter().fold(states, |number, &partner| number << 3 | partner as usize)
-}
+/// As many numbers as positions of one size have: two states of 4 bits, six partners of 3.
+const OF_A_SIZE: usize = 1 << (2 * 4 + 6 * 3);
 
 impl Rounds {
     fn new(entries: &[(Position, u32)]) -> Rounds {
-        let mut of = vec![0; 1 << 26];
-        for (position, rounds) in entries {
-            of[place(position)] = match *rounds {
+        let least_size = entries.iter().map(|(position, _)| position.history).min().expect("the start");
+        let sizes = (MAX_HISTORY - least_size) as usize + 1;
+        let mut rounds = Rounds { of: vec![0; sizes * OF_A_SIZE], least_size };
+        for (position, n) in entries {
+            let place = rounds.place(position);
+            rounds.of[place] = match *n {
                 NEVER_LOST => NEVER,
                 n => u8::try_from(n).ok().filter(|n| *n != NEVER).expect("fewer rounds"),
             };
         }
-        Rounds { of }
+        rounds
+    }
+
+    fn place(&self, position: &Position) -> usize {
+        let first = (position.history - self.least_size) as usize * OF_A_SIZE;
+        first + position.partners.iter().fold(pair(position), |number, &partner| number << 3 | partner as usize)
     }
 
     fn get(&self, position: &Position) -> u64 {
-        self.of[place(position)] as u64
+        self.of[self.place(position)] as u64
     }
 }
 
@@ -99,7 +107,7 @@ impl Open {
 fn ranked_attacks(rules: Rules, task: &Task, position: &Position) -> Vec<Attack> {
     let kind = |a: &Attack| task.model(a.side).edges[a.edge as usize].kind;
     let mut list = attacks(rules, task, position);
-    list.retain(|a| a.case != CASE_NEW || kind(a) == Kind::GloballyFresh);
+    list.retain(|a| a.case != CASE_NEW || kind(a) == Kind::GloballyFresh || position.history < MAX_HISTORY);
     list
 }
 
@@ -168,7 +176,7 @@ fn looked_at_in(targets: &[u64], last: u64, open: impl Fn(u64, u64) -> u64) -> u
 mod tests {
     use super::*;
     use reference::compare::solve;
-    use reference::generate::{families::family, valid_task};
+    use reference::generate::{families::family, histories::stating, valid_task};
     use reference::random::Random;
     use std::collections::BTreeMap;
 
@@ -225,6 +233,20 @@ mod tests {
             ("rings-fresh", &[5, 4, 2]),
         ] {
             agrees(&family(name, sizes).expect("a family"));
+        }
+    }
+
+    /// Sizes at the numbers held together, one above, and 12.
+    #[test]
+    fn small_histories_agree() {
+        for (name, sizes, size) in [
+            ("dearest", &[3][..], 6),
+            ("dearest-equal", &[2], 5),
+            ("ring", &[3, 2], 4),
+            ("ring-late", &[5, 2], 12),
+            ("rings-fresh", &[5, 4, 2], 5),
+        ] {
+            agrees(&stating(family(name, sizes).expect("a family"), size).expect("a size that it can have"));
         }
     }
 

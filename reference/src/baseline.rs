@@ -4,14 +4,17 @@
 //! It shares the data types with the rest and the writer of certificates;
 //! positions, attacks and replies are its own, made for speed:
 //!
-//! - A position is 26 bits: two states of 4 bits, six partners of 3 bits,
-//!   in the order of the position bytes, so packed order is byte order.
+//! - A position is 30 bits: two states of 4 bits, six partners of 3 bits,
+//!   the history's size of 4 bits, in the order of the position bytes, so
+//!   packed order is byte order.
 //! - The round "left attacks with e, right replies with f" and the round
 //!   "right attacks with f, left replies with e" lead to the same position.
 //!   So positions are made once for every such couple of edges, and which
 //!   sides attack makes no difference to the positions that are reached.
-//! - For a locally fresh edge, case 7 has the same replies as case 8 or
-//!   fewer. So case 8 adds positions, but never rounds.
+//! - With a history of 13, case 7 of a locally fresh edge has the same
+//!   replies as case 8 or fewer, and they lead to the same positions. So
+//!   case 8 adds positions, but never rounds. Below 13 case 8 raises the
+//!   size, and both cases are attacks of their own.
 //! - A position that has an attack without reply is lost in 1 round (or 0);
 //!   it needs no place in the predecessor lists.
 
@@ -47,15 +50,22 @@ type Numbers = HashMap<u32, u32, BuildHasherDefault<FoldHasher>>;
 
 const FIELD: u32 = 7;
 
+/// The history's size stands last in a packed position.
+const SIZE: u32 = 15;
+
+/// Where the states stand in a packed position.
+const LEFT_STATE: u32 = 26;
+const RIGHT_STATE: u32 = 22;
+
 /// Where the partner of a left register stands in a packed position.
 fn shift(register: u8) -> u32 {
-    3 * (MAX_REGISTERS as u32 - register as u32)
+    4 + 3 * (MAX_REGISTERS as u32 - register as u32)
 }
 
 fn pack(position: &Position) -> u32 {
-    let states = (position.left as u32) << 22 | (position.right as u32) << 18;
+    let states = (position.left as u32) << LEFT_STATE | (position.right as u32) << RIGHT_STATE;
     let fields = (1..=6u8).map(|r| (position.partners[r as usize - 1] as u32) << shift(r));
-    states | fields.sum::<u32>()
+    states | fields.sum::<u32>() | position.history as u32
 }
 
 fn unpack(packed: u32) -> Position {
@@ -63,7 +73,12 @@ fn unpack(packed: u32) -> Position {
     for register in 1..=6u8 {
         partners[register as usize - 1] = (packed >> shift(register) & FIELD) as u8;
     }
-    Position { left: (packed >> 22) as u8, right: (packed >> 18 & 15) as u8, partners }
+    Position {
+        left: (packed >> LEFT_STATE) as u8,
+        right: (packed >> RIGHT_STATE & 15) as u8,
+        partners,
+        history: (packed & SIZE) as u8,
+    }
 }
 
 /// An edge as the inner loops want it.
@@ -79,6 +94,8 @@ struct Step {
 #[derive(Clone, Default)]
 struct Bundle {
     known: Vec<Step>,
+    /// The locally fresh edges, then the globally fresh ones: a model's edges
+    /// are in this order.
     fresh: Vec<Step>,
     /// Registers that have a known edge here.
     known_set: u8,
@@ -88,6 +105,10 @@ struct Bundle {
 impl Bundle {
     fn is_empty(&self) -> bool {
         self.known.is_empty() && self.fresh.is_empty()
+    }
+
+    fn local(&self) -> &[Step] {
+        &self.fresh[..self.local_count]
     }
 }
 
@@ -136,8 +157,9 @@ fn encounter(rules: Rules, task: &Task, left: u8, right: u8) -> Encounter {
 }
 
 /// A matching taken apart: partners both ways (place 0 is unused) and the
-/// registers that have one.
+/// registers that have one. The history's size comes with it.
 struct Matching {
+    /// A packed position without its states.
     packed: u32,
     of_left: [u8; 7],
     of_right: [u8; 8],
@@ -148,7 +170,7 @@ struct Matching {
 impl Matching {
     fn of(packed: u32) -> Matching {
         let mut m = Matching {
-            packed: packed & 0x3_ffff,
+            packed: packed & ((1 << RIGHT_STATE) - 1),
             of_left: [0; 7],
             of_right: [0; 8],
             left_matched: 0,
@@ -188,7 +210,17 @@ impl Matching {
             let at = shift(left.register);
             fields = fields & !(FIELD << at) | (right.register as u32) << at;
         }
-        (left.to as u32) << 22 | (right.to as u32) << 18 | fields
+        (left.to as u32) << LEFT_STATE | (right.to as u32) << RIGHT_STATE | fields
+    }
+
+    fn history(&self) -> u32 {
+        self.packed & SIZE
+    }
+
+    /// The numbers that the two readers hold together.
+    fn held(&self, here: &Encounter) -> u32 {
+        let left_alone = here.left_set & !self.left_matched;
+        left_alone.count_ones() + here.right_set.count_ones()
     }
 
     fn without_left(&self, fields: u32, register: u8) -> u32 {
@@ -307,7 +339,7 @@ impl Explorer<'_> {
 
     fn expand(&mut self, own: u32, packed: u32) {
         let encounters = self.encounters;
-        let here = &encounters[(packed >> 18) as usize];
+        let here = &encounters[(packed >> RIGHT_STATE) as usize];
         let matching = Matching::of(packed);
         let left_lone = here.left_set & !matching.left_matched;
         let right_lone = here.right_set & !matching.right_matched;
@@ -319,7 +351,7 @@ impl Explorer<'_> {
         self.attacks.clear();
         self.attacks.decided = here.lost_at_once || here.tags.iter().any(unheard);
         for (left, right) in &here.tags {
-            self.fresh_meets_fresh(own, &matching, left, right);
+            self.fresh_meets_fresh(own, &matching, matching.held(here), left, right);
             self.known_meets_known(own, &matching, left, right);
             let holder = Holder { side: Side::Left, bundle: left, lone: left_lone };
             self.known_meets_local(own, holder, right, |l, r| {
@@ -358,27 +390,55 @@ impl Explorer<'_> {
         }
     }
 
-    /// A number that neither reader holds.
-    fn fresh_meets_fresh(&mut self, own: u32, m: &Matching, left: &Bundle, right: &Bundle) {
+    /// A number that neither reader holds: a new one, which raises the
+    /// history's size up to 13, or one that was seen before, if there is one.
+    fn fresh_meets_fresh(
+        &mut self,
+        own: u32,
+        m: &Matching,
+        held: u32,
+        left: &Bundle,
+        right: &Bundle,
+    ) {
+        if m.history() == MAX_HISTORY as u32 {
+            let seen_or_new = |attack: &Step, reply: &Step| attack.is_global || !reply.is_global;
+            self.fresh_round(own, m, m.packed, [&left.fresh, &right.fresh], seen_or_new);
+            return;
+        }
+        self.fresh_round(own, m, m.packed + 1, [&left.fresh, &right.fresh], |_, _| true);
+        if m.history() > held {
+            self.fresh_round(own, m, m.packed, [left.local(), right.local()], |_, _| true);
+        }
+    }
+
+    /// Fresh edges of the left and the right reader that take one number.
+    /// `fields` has the matching and the size after the round; `fits` says
+    /// whether one edge, attacking, is replied to by another.
+    fn fresh_round(
+        &mut self,
+        own: u32,
+        m: &Matching,
+        fields: u32,
+        [left, right]: [&[Step]; 2],
+        fits: impl Fn(&Step, &Step) -> bool,
+    ) {
         self.grid.clear();
-        for l in &left.fresh {
-            let fields = m.without_left(m.packed, l.register);
-            for r in &right.fresh {
+        for l in left {
+            let fields = m.without_left(fields, l.register);
+            for r in right {
                 self.grid.push(m.after(l, r, m.without_right(fields, r.register)));
             }
         }
         self.number_grid();
-        let width = right.fresh.len();
-        for (row, l) in left.fresh.iter().enumerate() {
-            let cells = &self.grid[row * width..(row + 1) * width];
-            let replies = cells.iter().zip(&right.fresh);
-            let fitting = replies.filter(|(_, r)| l.is_global || !r.is_global);
+        let width = right.len();
+        for (row, l) in left.iter().enumerate() {
+            let replies = self.grid[row * width..(row + 1) * width].iter().zip(right);
+            let fitting = replies.filter(|(_, r)| fits(l, r));
             self.attacks.add(own, Side::Left, fitting.map(|(&target, _)| target));
         }
-        for (column, r) in right.fresh.iter().enumerate() {
-            let cells = self.grid.iter().skip(column).step_by(width);
-            let replies = cells.zip(&left.fresh);
-            let fitting = replies.filter(|(_, l)| r.is_global || !l.is_global);
+        for (column, r) in right.iter().enumerate() {
+            let replies = self.grid.iter().skip(column).step_by(width).zip(left);
+            let fitting = replies.filter(|(_, l)| fits(r, l));
             self.attacks.add(own, Side::Right, fitting.map(|(&target, _)| target));
         }
     }

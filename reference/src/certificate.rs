@@ -1,12 +1,38 @@
-//! The certificates that the comparer writes.
+//! The certificates that the comparer writes, and the parts of their records.
 
-use crate::game::{attacks, replies, Attack, Position};
+use crate::game::{attacks, replies, Attack, Position, POSITION_LENGTH};
 use crate::model::{Task, Verdict};
 use crate::rules::Rules;
 use std::collections::BTreeMap;
 
-pub const KEPT_LENGTH: usize = 9;
-pub const LOST_LENGTH: usize = 16;
+pub const KEPT_LENGTH: usize = 1 + POSITION_LENGTH;
+pub const LOST_LENGTH: usize = ROUNDS_AT + 4;
+
+/// Where the history's size stands in a record: last in the position, which
+/// follows the kind.
+pub const SIZE_AT: usize = POSITION_LENGTH;
+
+/// Where side, edge and case stand in a lost position's record.
+pub const SIDE_AT: usize = KEPT_LENGTH;
+pub const EDGE_AT: usize = SIDE_AT + 1;
+pub const CASE_AT: usize = SIDE_AT + 2;
+
+/// Where its rounds begin.
+pub const ROUNDS_AT: usize = SIDE_AT + 3;
+
+/// The position of a record of either length.
+pub fn listed_position(record: &[u8]) -> Position {
+    Position::from_bytes(&record[1..])
+}
+
+/// Side, edge and case of a lost position's record.
+pub fn listed_attack(record: &[u8]) -> [u8; 3] {
+    [record[SIDE_AT], record[EDGE_AT], record[CASE_AT]]
+}
+
+pub fn listed_rounds(record: &[u8]) -> u32 {
+    record[ROUNDS_AT..].iter().fold(0, |rounds, &byte| rounds << 8 | byte as u32)
+}
 
 /// The length of a record in a certificate for this verdict.
 pub fn record_length(verdict: Verdict) -> usize {

@@ -1,6 +1,6 @@
 //! The certificate checker.
 
-use crate::certificate::record_length;
+use crate::certificate::{listed_attack, listed_position, listed_rounds, record_length};
 use crate::game::{attacks, existing_attack, replies, Position};
 use crate::model::*;
 use crate::rules::Rules;
@@ -45,7 +45,7 @@ fn split_records(rules: Rules, certificate: &[u8]) -> Option<Vec<&[u8]>> {
 
 fn read_proposal(rules: Rules, task: &Task, certificate: &[u8]) -> Result<Proposal, Refusal> {
     let records = split_records(rules, certificate).ok_or(Refusal(13))?;
-    let positions: Vec<Position> = records.iter().map(|r| Position::from_bytes(&r[1..9])).collect();
+    let positions: Vec<Position> = records.iter().map(|r| listed_position(r)).collect();
     let legal = positions.iter().all(|p| p.is_legal(task));
     let rising = positions.windows(2).all(|two| two[0] < two[1]);
     if !legal || !rising {
@@ -55,15 +55,12 @@ fn read_proposal(rules: Rules, task: &Task, certificate: &[u8]) -> Result<Propos
         None => Proposal::Empty,
         Some(&kind) if kind == rules.kept.kind() => Proposal::Kept(positions.into_iter().collect()),
         Some(_) => {
-            let fields = records.iter().map(|r| listed_fields(r));
+            let fields = records
+                .iter()
+                .map(|r| Listed { attack: listed_attack(r), rounds: listed_rounds(r) });
             Proposal::Lost(positions.into_iter().zip(fields).collect())
         }
     })
-}
-
-fn listed_fields(record: &[u8]) -> Listed {
-    let rounds = u32::from_be_bytes([record[12], record[13], record[14], record[15]]);
-    Listed { attack: [record[9], record[10], record[11]], rounds }
 }
 
 /// Whether no position of the set is lost at once, and each attack has a

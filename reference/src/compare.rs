@@ -1,13 +1,13 @@
 //! The plain comparer: reach everything, then settle round after round.
 
 use crate::certificate::{kept_certificate, lost_certificate};
-use crate::game::{attacks, replies, Position};
+use crate::game::{attacks, replies, Position, POSITION_LENGTH};
 use crate::model::*;
 use crate::rules::Rules;
 use crate::task;
 use std::collections::BTreeMap;
 
-pub const ENTRY_LENGTH: usize = 12;
+pub const ENTRY_LENGTH: usize = POSITION_LENGTH + 4;
 pub const NEVER_LOST: u32 = u32::MAX;
 
 /// What a call returns, next to the table and the certificate buffer. After
@@ -69,8 +69,8 @@ impl Solution {
             return Answer::refused(Refusal(12));
         }
         for (entry, (position, rounds)) in table.chunks_mut(ENTRY_LENGTH).zip(&self.entries) {
-            entry[..8].copy_from_slice(&position.bytes());
-            entry[8..].copy_from_slice(&rounds.to_be_bytes());
+            entry[..POSITION_LENGTH].copy_from_slice(&position.bytes());
+            entry[POSITION_LENGTH..].copy_from_slice(&rounds.to_be_bytes());
         }
         buffer[..self.certificate.len()].copy_from_slice(&self.certificate);
         Answer {

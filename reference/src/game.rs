@@ -3,14 +3,17 @@
 use crate::model::*;
 use crate::rules::Rules;
 
-/// Two states and the partners of left registers 1 to 6 (0 is none). The
-/// derived order is the order of the eight position bytes.
+/// Two states, the partners of left registers 1 to 6 (0 is none) and the
+/// history's size. The derived order is the order of the nine position bytes.
 #[derive(Clone, Copy, PartialEq, Eq, PartialOrd, Ord, Hash, Debug)]
 pub struct Position {
     pub left: u8,
     pub right: u8,
     pub partners: [u8; MAX_REGISTERS],
+    pub history: u8,
 }
+
+pub const POSITION_LENGTH: usize = 9;
 
 impl Position {
     pub fn start(task: &Task) -> Position {
@@ -18,21 +21,23 @@ impl Position {
         for &(left, right) in &task.pairs {
             partners[left as usize - 1] = right;
         }
-        Position { left: task.left.start, right: task.right.start, partners }
+        let (left, right) = (task.left.start, task.right.start);
+        Position { left, right, partners, history: task.history() }
     }
 
-    pub fn bytes(&self) -> [u8; 8] {
-        let mut bytes = [0; 8];
+    pub fn bytes(&self) -> [u8; POSITION_LENGTH] {
+        let mut bytes = [0; POSITION_LENGTH];
         bytes[0] = self.left;
         bytes[1] = self.right;
-        bytes[2..].copy_from_slice(&self.partners);
+        bytes[2..8].copy_from_slice(&self.partners);
+        bytes[8] = self.history;
         bytes
     }
 
     pub fn from_bytes(bytes: &[u8]) -> Position {
         let mut partners = [0; MAX_REGISTERS];
         partners.copy_from_slice(&bytes[2..8]);
-        Position { left: bytes[0], right: bytes[1], partners }
+        Position { left: bytes[0], right: bytes[1], partners, history: bytes[8] }
     }
 
     pub fn state(&self, side: Side) -> u8 {
@@ -67,7 +72,17 @@ impl Position {
     pub fn is_legal(&self, task: &Task) -> bool {
         let states_exist = (self.left as usize) < task.left.states.len()
             && (self.right as usize) < task.right.states.len();
-        states_exist && self.partners_are_legal(task)
+        states_exist && self.partners_are_legal(task) && self.history_is_legal(task)
+    }
+
+    /// The states must exist.
+    pub fn held_together(&self, task: &Task) -> u8 {
+        let shared = self.partners.iter().filter(|&&p| p != 0).count();
+        held_together(task.left.set(self.left), task.right.set(self.right), shared)
+    }
+
+    fn history_is_legal(&self, task: &Task) -> bool {
+        (self.held_together(task)..=MAX_HISTORY).contains(&self.history)
     }
 
     fn partners_are_legal(&self, task: &Task) -> bool {
@@ -114,7 +129,11 @@ fn cases(task: &Task, position: &Position, side: Side, edge: &Edge) -> Vec<u8> {
             let held = task.model(other).set(position.state(other));
             let mut list: Vec<u8> =
                 held.iter().filter(|&j| position.partner(other, j).is_none()).collect();
-            list.extend([CASE_SEEN, CASE_NEW]);
+            // A number that was seen and is held by neither.
+            if position.history > position.held_together(task) {
+                list.push(CASE_SEEN);
+            }
+            list.push(CASE_NEW);
             list
         }
     }
@@ -183,6 +202,9 @@ fn after(task: &Task, position: &Position, attack: Attack, edge: &Edge, reply: &
     next.partners[left.register as usize - 1] = right.register;
     next.left = left.to;
     next.right = right.to;
+    if attack.case == CASE_NEW {
+        next.history = (position.history + 1).min(MAX_HISTORY);
+    }
     let (left_set, right_set) = (task.left.set(left.to), task.right.set(right.to));
     for (index, partner) in next.partners.iter_mut().enumerate() {
         if !left_set.contains(index as u8 + 1) || !right_set.contains(*partner) {

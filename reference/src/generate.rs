@@ -1,10 +1,12 @@
 //! The seeded generator. Item `index` of a seed depends on nothing else.
 
+pub mod blanks;
 pub mod chains;
 pub mod covers;
 pub mod damage;
 pub mod families;
 pub mod guesses;
+pub mod histories;
 pub mod models;
 pub mod near;
 pub mod overwrites;
@@ -32,12 +34,14 @@ pub enum ItemKind {
     Overwrite,
     /// Many positions.
     Reach,
+    /// Small histories that matter.
+    Blank,
     /// A byte string that is usually turned back.
     Damaged,
 }
 
 impl ItemKind {
-    pub const ALL: [ItemKind; 8] = [
+    pub const ALL: [ItemKind; 9] = [
         ItemKind::Small,
         ItemKind::Near,
         ItemKind::Chain,
@@ -45,12 +49,13 @@ impl ItemKind {
         ItemKind::Guess,
         ItemKind::Overwrite,
         ItemKind::Reach,
+        ItemKind::Blank,
         ItemKind::Damaged,
     ];
 
     pub fn name(self) -> &'static str {
-        let names = ["small", "near", "chain", "cover", "guess", "overwrite", "reach", "damaged"];
-        names[self as usize]
+        ["small", "near", "chain", "cover", "guess", "overwrite", "reach", "blank", "damaged"]
+            [self as usize]
     }
 
     pub fn from_name(name: &str) -> Option<ItemKind> {
@@ -65,22 +70,25 @@ pub struct Item {
 }
 
 /// How often each kind of item is made, in parts of 100.
-const MIX: [(usize, ItemKind); 8] = [
-    (7, ItemKind::Small),
-    (27, ItemKind::Near),
-    (14, ItemKind::Chain),
-    (15, ItemKind::Cover),
+const MIX: [(usize, ItemKind); 9] = [
+    (6, ItemKind::Small),
+    (24, ItemKind::Near),
+    (13, ItemKind::Chain),
+    (14, ItemKind::Cover),
     (4, ItemKind::Guess),
     (5, ItemKind::Overwrite),
     (4, ItemKind::Reach),
+    (6, ItemKind::Blank),
     (24, ItemKind::Damaged),
 ];
 
 /// Kinds that make tasks which are not turned back by the reader.
-const VALID_MIX: [(usize, ItemKind); 7] = [MIX[0], MIX[1], MIX[2], MIX[3], MIX[4], MIX[5], MIX[6]];
+const VALID_MIX: [(usize, ItemKind); 8] =
+    [MIX[0], MIX[1], MIX[2], MIX[3], MIX[4], MIX[5], MIX[6], MIX[7]];
 
 fn task_of_kind(random: &mut Random, kind: ItemKind) -> Task {
-    match kind {
+    let task = match kind {
+        ItemKind::Blank => return blanks::blank_pair(random),
         ItemKind::Small | ItemKind::Damaged => near::unrelated(random),
         ItemKind::Near => near::near_pair(random),
         ItemKind::Chain => chains::chain_pair(random),
@@ -88,7 +96,9 @@ fn task_of_kind(random: &mut Random, kind: ItemKind) -> Task {
         ItemKind::Guess => guesses::guess_pair(random),
         ItemKind::Overwrite => overwrites::overwrite_pair(random),
         ItemKind::Reach => covers::reach_pair(random),
-    }
+    };
+    let only_large = kind == ItemKind::Reach && task.left.start_set().len() > 2;
+    histories::with_history(random, task, only_large)
 }
 
 pub fn item_of_kind(seed: u64, index: u64, kind: ItemKind) -> Item {

@@ -5,6 +5,9 @@ pub const MAX_STATES: usize = 16;
 pub const MAX_EDGES: usize = 64;
 pub const MAX_TAG: u8 = 31;
 
+/// The greatest history size; it stands for this many numbers or more.
+pub const MAX_HISTORY: u8 = 13;
+
 #[derive(Clone, Copy, PartialEq, Eq, PartialOrd, Ord, Hash, Debug)]
 pub enum Kind {
     Known,
@@ -60,6 +63,12 @@ impl RegisterSet {
     pub fn is_empty(self) -> bool {
         self.0 == 0
     }
+}
+
+/// The numbers that two readers with these sets hold together, where they
+/// share this many; a shared number counts once.
+pub fn held_together(left: RegisterSet, right: RegisterSet, shared: usize) -> u8 {
+    (left.len() + right.len() - shared) as u8
 }
 
 #[derive(Clone, Copy, PartialEq, Eq, Debug)]
@@ -157,9 +166,26 @@ pub struct Task {
     pub right: Model,
     /// Left register, right register; rising by left register.
     pub pairs: Vec<(u8, u8)>,
+    /// The history's size, if a record states it.
+    pub history_record: Option<u8>,
 }
 
 impl Task {
+    /// A task without a history record.
+    pub fn new(left: Model, right: Model, pairs: Vec<(u8, u8)>) -> Task {
+        Task { left, right, pairs, history_record: None }
+    }
+
+    /// The history's size at the start.
+    pub fn history(&self) -> u8 {
+        self.history_record.unwrap_or(MAX_HISTORY)
+    }
+
+    /// The numbers that the readers hold together at the start.
+    pub fn held_at_start(&self) -> u8 {
+        held_together(self.left.start_set(), self.right.start_set(), self.pairs.len())
+    }
+
     pub fn model(&self, side: Side) -> &Model {
         match side {
             Side::Left => &self.left,
@@ -171,7 +197,8 @@ impl Task {
     pub fn exchanged(&self) -> Task {
         let mut pairs: Vec<(u8, u8)> = self.pairs.iter().map(|&(l, r)| (r, l)).collect();
         pairs.sort();
-        Task { left: self.right.clone(), right: self.left.clone(), pairs }
+        let (left, right) = (self.right.clone(), self.left.clone());
+        Task { left, right, pairs, history_record: self.history_record }
     }
 }
 
@@ -221,6 +248,6 @@ impl Verdict {
     }
 }
 
-/// One of the numbered refusals, 1 to 14.
+/// One of the numbered refusals, 1 to 15.
 #[derive(Clone, Copy, PartialEq, Eq, PartialOrd, Ord, Debug)]
 pub struct Refusal(pub u32);

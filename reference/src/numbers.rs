@@ -85,9 +85,9 @@ impl Setting {
 }
 
 /// A game of one task; the chooser takes the sides that attack. `new_numbers`
-/// is how many never-seen numbers are tried in each choice. There are endlessly many of them, and exchanging
-/// two of them throughout changes nothing, so one is enough; more can be
-/// asked for to see that it is.
+/// is how many never-seen numbers are tried in each choice. There are
+/// endlessly many of them, and exchanging two of them throughout changes
+/// nothing, so one is enough; more can be asked for to see that it is.
 pub struct Game<'a> {
     rules: Rules,
     task: &'a Task,
@@ -174,10 +174,20 @@ impl<'a> Game<'a> {
     }
 }
 
+/// Whether the history of an opening may have this many numbers: exactly as
+/// many as stated, or at least 13 where 13 is stated.
+pub fn may_open_with(task: &Task, history_size: usize) -> bool {
+    match task.history() {
+        MAX_HISTORY => history_size >= MAX_HISTORY as usize,
+        stated => history_size == stated as usize,
+    }
+}
+
 /// An opening: `numbers` gives the numbers to use, all different; a number
 /// that the two readers share is used once. Further ones fill the history up
-/// to its size, which the papers want to be at least 13.
+/// to its size, which has to be one that an opening may have.
 pub fn opening(task: &Task, numbers: &[Number], history_size: usize) -> Setting {
+    assert!(may_open_with(task, history_size), "{history_size} for {}", task.history());
     let mut source = numbers.iter().copied();
     let mut next_number = || source.next().expect("enough numbers");
     let mut left = Reader { state: task.left.start, registers: [None; MAX_REGISTERS] };

@@ -402,8 +402,8 @@ fn lent_size(random: &mut Random, count: usize, unit: usize) -> (&'static str, u
         3 => ("one-less", less),
         4 if unit > 1 => ("one-less-with-spare", less + random.between(1, unit - 1)),
         5 => ("zero", 0),
-        6 => ("larger", exact + random.between(12, 100)),
-        _ => ("spare", exact + random.between(1, 11)),
+        6 => ("larger", exact + random.between(ENTRY_LENGTH, 100)),
+        _ => ("spare", exact + random.between(1, ENTRY_LENGTH - 1)),
     }
 }
 

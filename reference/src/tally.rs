@@ -1,8 +1,9 @@
 //! Named counts, for the quota table and for the runner's `--require`.
 
-use crate::certificate::LOST_LENGTH;
+use crate::certificate::{listed_attack, listed_position, LOST_LENGTH};
 use crate::compare::Solution;
-use crate::game::{attacks, existing_attack, replies, Attack, Position};
+use crate::game::{attacks, existing_attack, replies, Attack, Position, CASE_NEW};
+use crate::generate::histories::SizeClass;
 use crate::model::*;
 use std::collections::{BTreeMap, BTreeSet};
 
@@ -35,9 +36,18 @@ impl Tally {
             let word = solution.verdict.key().to_lowercase();
             self.add(format!("{word}:matched-and-3-positions"));
         }
+        let class = SizeClass::of(task).name();
+        self.add(format!("history:{class}:{}", solution.verdict.key()));
         if solution.rounds >= 3 {
             self.add("rounds:at-least-3");
+            self.add(format!("history:{class}:rounds-at-least-3"));
         }
+    }
+
+    /// How a task with a small history came out beside the same task with a
+    /// history of 13.
+    pub fn add_beside_13(&mut self, with_13: &Solution, small: &Solution) {
+        self.add(format!("beside-13:{}", beside_13(with_13, small)));
     }
 
     /// How another game came out beside the two-way one.
@@ -58,6 +68,9 @@ impl Tally {
         let mut keys = BTreeSet::new();
         for (position, attack) in listed_attacks(task, solution) {
             keys.insert(format!("case:{}", attack.case));
+            if attack.case == CASE_NEW && edge_kind(task, attack.side, attack.edge) == "local" {
+                keys.insert("case:8-of-a-local-edge".to_string());
+            }
             for pair in reply_kinds(task, &position, attack) {
                 keys.insert(format!("certificate-reply:{pair}"));
             }
@@ -86,6 +99,15 @@ fn beside(two_way: &Solution, other: &Solution) -> &'static str {
     }
 }
 
+/// A larger history is never worse for the attacker.
+fn beside_13(with_13: &Solution, small: &Solution) -> &'static str {
+    match (with_13.verdict.is_kept(), small.verdict.is_kept()) {
+        (false, true) => "kept-by-a-small-history",
+        (false, false) if with_13.rounds < small.rounds => "lost-later",
+        _ => "the-same",
+    }
+}
+
 const ROUND_CLASSES: [u32; 7] = [0, 1, 2, 3, 5, 9, 15];
 const SIZE_CLASSES: [u32; 6] = [0, 1, 50, 200, 1000, 4097];
 const POSITION_CLASSES: [u32; 6] = [1, 2, 10, 100, 1000, 4001];
@@ -106,9 +128,8 @@ pub fn listed_attacks(task: &Task, solution: &Solution) -> Vec<(Position, Attack
         return Vec::new();
     }
     let attack_of = |record: &[u8]| {
-        let position = Position::from_bytes(&record[1..9]);
-        let fields = [record[9], record[10], record[11]];
-        let attack = existing_attack(solution.rules, task, &position, fields)?;
+        let position = listed_position(record);
+        let attack = existing_attack(solution.rules, task, &position, listed_attack(record))?;
         Some((position, attack))
     };
     solution.certificate.chunks(LOST_LENGTH).filter_map(attack_of).collect()
@@ -116,11 +137,14 @@ pub fn listed_attacks(task: &Task, solution: &Solution) -> Vec<(Position, Attack
 
 /// "attack kind-reply kind" for each reply.
 fn reply_kinds(task: &Task, position: &Position, attack: Attack) -> Vec<String> {
-    let edge_kind = |side: Side, edge: u8| task.model(side).edges[edge as usize].kind.name();
-    let attack_kind = edge_kind(attack.side, attack.edge);
+    let attack_kind = edge_kind(task, attack.side, attack.edge);
     let list = replies(task, position, attack);
     let other = attack.side.other();
-    list.iter().map(|r| format!("{attack_kind}-{}", edge_kind(other, r.edge))).collect()
+    list.iter().map(|r| format!("{attack_kind}-{}", edge_kind(task, other, r.edge))).collect()
+}
+
+fn edge_kind(task: &Task, side: Side, edge: u8) -> &'static str {
+    task.model(side).edges[edge as usize].kind.name()
 }
 
 /// "left kind-right kind" for edges with the same tag, replies or not.

@@ -1,7 +1,7 @@
-//! The task file: reader with refusals 1 to 10, and a writer.
+//! The task file: reader with refusals 1 to 10 and 15, and a writer.
 //!
 //! The reader takes one record after the other. For each record it asks the
-//! refusals in rising number, so the lowest number that applies is given.
+//! refusals in checking order, so the first one that applies is given.
 
 use crate::model::*;
 
@@ -9,6 +9,7 @@ pub const HEADER: u8 = 1;
 pub const STATE: u8 = 2;
 pub const EDGE: u8 = 3;
 pub const PAIR: u8 = 4;
+pub const HISTORY: u8 = 5;
 pub const END: u8 = 15;
 
 /// Length of a record's body, or None for a kind that does not exist.
@@ -17,6 +18,7 @@ pub fn body_length(kind: u8) -> Option<usize> {
         HEADER | STATE => Some(3),
         EDGE => Some(5),
         PAIR => Some(2),
+        HISTORY => Some(1),
         END => Some(0),
         _ => None,
     }
@@ -39,6 +41,7 @@ struct Reader {
     /// The left model, then the right one.
     models: Vec<Partial>,
     pairs: Vec<(u8, u8)>,
+    history_record: Option<u8>,
     ended: bool,
 }
 
@@ -69,13 +72,16 @@ impl Reader {
         if self.ended {
             return false;
         }
+        if self.history_record.is_some() {
+            return kind == END;
+        }
         let complete = self.models.last().is_some_and(Partial::has_all_states);
         let both_complete = self.models.len() == 2 && complete;
         match kind {
             HEADER => self.models.is_empty() || self.models.len() == 1 && complete,
             STATE => !self.models.is_empty() && !complete,
             EDGE => complete && self.pairs.is_empty(),
-            PAIR | END => both_complete,
+            PAIR | HISTORY | END => both_complete,
             _ => false,
         }
     }
@@ -86,6 +92,7 @@ impl Reader {
             STATE => self.take_state(body),
             EDGE => self.take_edge(body),
             PAIR => self.take_pair(body),
+            HISTORY => self.take_history(body[0]),
             _ => {
                 self.ended = true;
                 Ok(())
@@ -150,11 +157,21 @@ impl Reader {
         Ok(())
     }
 
+    fn take_history(&mut self, size: u8) -> Result<(), Refusal> {
+        let [left, right] = [0, 1].map(|side: usize| self.models[side].model.start_set());
+        let held = held_together(left, right, self.pairs.len());
+        if !(held..=MAX_HISTORY).contains(&size) {
+            return Err(Refusal(15));
+        }
+        self.history_record = Some(size);
+        Ok(())
+    }
+
     fn finish(self) -> Task {
         let mut models = self.models.into_iter().map(|m| m.model);
         let left = models.next().expect("left model");
         let right = models.next().expect("right model");
-        Task { left, right, pairs: self.pairs }
+        Task { left, right, pairs: self.pairs, history_record: self.history_record }
     }
 }
 
@@ -198,6 +215,7 @@ pub fn records(task: &Task) -> Vec<Vec<u8>> {
     for &(left, right) in &task.pairs {
         all.push(record(PAIR, &[left, right]));
     }
+    all.extend(task.history_record.map(|size| record(HISTORY, &[size])));
     all.push(record(END, &[]));
     all
 }

@@ -1,6 +1,6 @@
 //! What the program `compare` prints.
 
-use crate::certificate::record_length;
+use crate::certificate::{listed_rounds, record_length, ROUNDS_AT};
 use crate::compare::{compare_by, Answer, ENTRY_LENGTH};
 use crate::model::Verdict;
 use crate::rules::Rules;
@@ -39,14 +39,13 @@ pub fn answer_text(answer: &Answer, certificate: &[u8]) -> String {
 
 fn record_line(verdict: Verdict, record: &[u8]) -> String {
     let (word, small_fields) =
-        if verdict.is_kept() { ("KEPT", &record[1..]) } else { ("LOST", &record[1..12]) };
+        if verdict.is_kept() { ("KEPT", &record[1..]) } else { ("LOST", &record[1..ROUNDS_AT]) };
     let mut line = word.to_string();
     for byte in small_fields {
         write!(line, " {byte}").expect("writing to a string");
     }
     if !verdict.is_kept() {
-        let rounds = u32::from_be_bytes([record[12], record[13], record[14], record[15]]);
-        write!(line, " {rounds}").expect("writing to a string");
+        write!(line, " {}", listed_rounds(record)).expect("writing to a string");
     }
     line.push('\n');
     line

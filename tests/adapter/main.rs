@@ -5,7 +5,7 @@ mod lent;
 
 use lent::Lent;
 use nuldopa::boundary::{self, Answer};
-use nuldopa::Game;
+use nuldopa::{Game, Position, POSITION_LENGTH};
 use std::env;
 use std::io::{self, Read, Write};
 use std::process::{Command, Stdio};
@@ -54,12 +54,9 @@ fn output_of(program: &str, input: &[u8]) -> String {
 
 /// The dump of a task from the numbers that `read_task` prints: the same, with the count of pairs before the position.
 fn dump(numbers: &[u8]) -> Vec<u8> {
-    let position = numbers.len() - 8;
-    let pairs = numbers[position + 2..].iter().filter(|&&p| p != 0).count() as u8;
-    let mut out = numbers[..position].to_vec();
-    out.push(pairs);
-    out.extend(&numbers[position..]);
-    out
+    let (models, position) = numbers.split_last_chunk::<POSITION_LENGTH>().expect("a position");
+    let pairs = Position::from_bytes(*position).partners.iter().filter(|&&p| p != 0).count() as u8;
+    [models, &[pairs], position].concat()
 }
 
 fn read(program: &str, task: &[u8]) -> Vec<u8> {

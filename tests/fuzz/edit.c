@@ -1,5 +1,6 @@
 #include "edit.h"
 #include "../../include/nuldopa.h"
+#include "task.h"
 #include <string.h>
 
 size_t record_bytes(uint32_t kind)
@@ -21,13 +22,30 @@ static void step_byte(uint8_t *records, size_t length, size_t bytes, uint32_t nu
     *byte = (uint8_t)(*byte + (number % 2 == 0 ? 1 : UINT8_MAX));
 }
 
+static void twin_record(uint8_t *records, size_t length, size_t bytes, uint32_t number)
+{
+    size_t count = length / bytes;
+    if (count < 2)
+        return;
+    uint8_t *record = records + number % (count - 1) * bytes;
+    memcpy(record + bytes, record, bytes);
+    record[bytes + 1 + HISTORY_AT]++;
+}
+
 size_t edit_certificate(uint8_t *certificate, size_t length, uint32_t number)
 {
     if (length == 0 || length < record_bytes(certificate[0]))
         return length;
     size_t bytes = record_bytes(certificate[0]);
-    if (number % 4 == 0)
-        return drop_record(certificate, length, bytes, number / 4);
-    step_byte(certificate, length, bytes, number / 4);
-    return length;
+    switch (number % 8) {
+    case 0:
+    case 1:
+        return drop_record(certificate, length, bytes, number / 8);
+    case 2:
+        twin_record(certificate, length, bytes, number / 8);
+        return length;
+    default:
+        step_byte(certificate, length, bytes, number / 8);
+        return length;
+    }
 }

@@ -3,6 +3,7 @@
 #include "../../include/nuldopa.h"
 #include "edit.h"
 #include "input.h"
+#include "task.h"
 #include <stdlib.h>
 #include <string.h>
 
@@ -69,8 +70,10 @@ static struct nuldopa_answer altered(struct nuldopa_answer a)
 /* What is in the buffers: bytes of them, and one on either side. */
 static void spoil_table(struct nuldopa_answer a, uint8_t *table, size_t length)
 {
-    int read = a.refusal == 0 || a.refusal > NULDOPA_BAD_PAIR;
-    if (fault_is("table changed by 1 to 10") && !read && length > 0)
+    int read = !nuldopa_is_of_a_record(a.refusal);
+    if (fault_is("table changed by 1 to 10") && !read && a.refusal != NULDOPA_BAD_HISTORY && length > 0)
+        table[length - 1]++;
+    if (fault_is("table changed by 15") && a.refusal == NULDOPA_BAD_HISTORY && length > 0)
         table[length - 1]++;
     if (fault_is("table not cleared") && read && a.refusal != 0 && length > 0)
         table[length - 1]++;
@@ -79,7 +82,7 @@ static void spoil_table(struct nuldopa_answer a, uint8_t *table, size_t length)
     if (fault_is("entries not rising") && a.positions > 1)
         memcpy(table + NULDOPA_ENTRY_BYTES, table, NULDOPA_ENTRY_BYTES);
     if (fault_is("other rounds in the table") && a.positions > 0)
-        table[11] ^= 1;
+        table[NULDOPA_ENTRY_BYTES - 1] ^= 1;
     if (fault_is("table written before its start"))
         table[-1]++;
     if (fault_is("table written past its end"))
@@ -95,7 +98,7 @@ static void spoil_certificate(struct nuldopa_answer a, uint8_t *certificate, siz
     if (fault_is("another position listed") && a.refusal == 0)
         certificate[1]++;
     if (fault_is("another attack") && a.refusal == 0 && record_bytes(a.verdict) == NULDOPA_LOST_BYTES)
-        certificate[10]++;
+        certificate[1 + NULDOPA_POSITION_BYTES + 1]++;
     if (fault_is("buffer written before its start"))
         certificate[-1]++;
     if (fault_is("buffer written past its end"))
@@ -124,9 +127,89 @@ static const uint8_t *marked_otherwise(const uint8_t *task, size_t length)
     return marked;
 }
 
-static const uint8_t *task_taken(const uint8_t *task, size_t length)
+static uint8_t wrong_size(uint8_t size, uint8_t stated)
 {
-    return fault_is("another end mark") ? marked_otherwise(task, length) : task;
+    if (fault_is("sizes not written"))
+        return 0;
+    if (size == stated)
+        return size;
+    if (fault_is("sizes never raised"))
+        return stated;
+    if (size == NULDOPA_MOST_SEEN)
+        return (uint8_t)(size + fault_is("sizes raised past 13"));
+    return (uint8_t)(size + fault_is("sizes raised by two"));
+}
+
+/* The sizes in positions that stand this many bytes apart. */
+static void spoil_sizes(uint8_t *position, size_t count, size_t apart, uint8_t stated)
+{
+    for (; count > 0; count--, position += apart)
+        position[HISTORY_AT] = wrong_size(position[HISTORY_AT], stated);
+}
+
+/* Of entries that differ in the size alone, the first stays. */
+static void merge_entries(struct nuldopa_answer *a, uint8_t *table)
+{
+    uint32_t kept = 0;
+    for (uint32_t i = 0; i < a->positions; i++) {
+        const uint8_t *entry = table + (size_t)i * NULDOPA_ENTRY_BYTES;
+        uint8_t *to = table + (size_t)kept * NULDOPA_ENTRY_BYTES;
+        if (kept == 0 || memcmp(to - NULDOPA_ENTRY_BYTES, entry, HISTORY_AT) != 0) {
+            memmove(to, entry, NULDOPA_ENTRY_BYTES);
+            kept++;
+        }
+    }
+    memset(table + (size_t)kept * NULDOPA_ENTRY_BYTES, 0, (size_t)(a->positions - kept) * NULDOPA_ENTRY_BYTES);
+    a->positions = kept;
+}
+
+static void spoil_all_sizes(struct nuldopa_answer a, const uint8_t *task, size_t task_length, uint8_t *table,
+                            uint8_t *certificate)
+{
+    struct start start;
+    if (a.refusal != 0)
+        return;
+    read_start(&start, task, task_length);
+    uint8_t stated = start.position[HISTORY_AT];
+    spoil_sizes(table, a.positions, NULDOPA_ENTRY_BYTES, stated);
+    spoil_sizes(certificate + 1, a.length / record_bytes(a.verdict), record_bytes(a.verdict), stated);
+}
+
+/* The task without its history size, as if 13 were stated. */
+static const uint8_t *without_size(const uint8_t *task, size_t *length)
+{
+    static uint8_t shorter[MOST_INPUT_BYTES];
+    size_t at = after_pairs(task, *length);
+    if (at + 3 != *length || task[at] != HISTORY || task[at + 2] != END)
+        return task;
+    memcpy(shorter, task, at);
+    shorter[at] = END;
+    *length = at + 1;
+    return shorter;
+}
+
+/* Whether the start's history would be too small if shared numbers were counted twice. */
+static int lacks_shared(const uint8_t *task, size_t length)
+{
+    struct start start;
+    read_start(&start, task, length);
+    unsigned held = held_together(&start, start.position);
+    for (size_t i = 0; i < MOST_REGISTERS; i++)
+        held += start.position[2 + i] != 0;
+    return start.position[HISTORY_AT] < held;
+}
+
+static int refused_wrongly(const uint8_t *task, size_t length)
+{
+    return fault_is("shared numbers counted twice") && !nuldopa_is_of_a_record(game->check(task, length, task, 0).refusal) &&
+           lacks_shared(task, length);
+}
+
+static const uint8_t *task_taken(const uint8_t *task, size_t *length)
+{
+    if (fault_is("the stated size ignored"))
+        return without_size(task, length);
+    return fault_is("another end mark") ? marked_otherwise(task, *length) : task;
 }
 
 /* What the other game gives, with the verdict and the kinds of this one. */
@@ -149,9 +232,15 @@ static struct nuldopa_answer faulty_compare(const uint8_t *task, size_t task_len
     nuldopa_compare_function *compare = fault_is("compared by the other game") ? compared_by_other : game->compare;
     if (fault_is("what the table held counts") && table_length > 0 && table[0] == 0x5a)
         task_length = 0;
-    struct nuldopa_answer a = compare(task_taken(task, task_length), task_length, table, table_length, certificate,
-                                      certificate_length);
+    if (refused_wrongly(task, task_length))
+        return nuldopa_refused(NULDOPA_BAD_HISTORY);
+    size_t taken_length = task_length;
+    const uint8_t *taken = task_taken(task, &taken_length);
+    struct nuldopa_answer a = compare(taken, taken_length, table, table_length, certificate, certificate_length);
     spoil_task((uint8_t *)(uintptr_t)task, task_length);
+    spoil_all_sizes(a, task, task_length, table, certificate);
+    if (fault_is("positions told apart by eight bytes"))
+        merge_entries(&a, table);
     spoil_table(a, table, table_length);
     spoil_certificate(a, certificate, certificate_length);
     return altered(a);
@@ -172,10 +261,28 @@ static struct nuldopa_answer misjudged(struct nuldopa_answer a, const uint8_t *t
     return a;
 }
 
+/* The certificate with 13 for every size above it. */
+static const uint8_t *certificate_taken(const uint8_t *certificate, size_t length)
+{
+    static uint8_t lowered[4000 * NULDOPA_LOST_BYTES];
+    if (!fault_is("sizes above 13 accepted") || length == 0 || length > sizeof lowered)
+        return certificate;
+    memcpy(lowered, certificate, length);
+    for (size_t at = 0; at + NULDOPA_POSITION_BYTES < length; at += record_bytes(lowered[0]))
+        if (lowered[at + 1 + HISTORY_AT] > NULDOPA_MOST_SEEN)
+            lowered[at + 1 + HISTORY_AT] = NULDOPA_MOST_SEEN;
+    return lowered;
+}
+
 static struct nuldopa_answer faulty_check(const uint8_t *task, size_t task_length, const uint8_t *certificate,
                                           size_t certificate_length)
 {
-    struct nuldopa_answer a = game->check(task_taken(task, task_length), task_length, certificate, certificate_length);
+    if (refused_wrongly(task, task_length))
+        return nuldopa_refused(NULDOPA_BAD_HISTORY);
+    size_t taken_length = task_length;
+    const uint8_t *taken = task_taken(task, &taken_length);
+    struct nuldopa_answer a =
+        game->check(taken, taken_length, certificate_taken(certificate, certificate_length), certificate_length);
     a = misjudged(a, task, task_length, certificate, certificate_length);
     if (fault_is("accepted with fewer rounds") && a.rounds > 0)
         a.rounds--;

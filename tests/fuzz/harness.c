@@ -1,20 +1,22 @@
 /* What 01 and 02 fix of every answer and of every byte lent, checked on the inputs that libFuzzer makes (`input.h`). What is
  * not so ends the program, and libFuzzer keeps the input.
  *
- * The comparer of each game is called twice: with as much as `compare` lends, and with what the input chooses. The first
- * answer determines the second. The checker is asked about the certificate that was written, and about one a little
- * different. In the other mode it is asked about the input's certificate. What it accepts is compared with the comparer's
- * verdict. And the answers of the two games are compared. */
+ * The comparer of each game is called twice: with the entries that `compare` lends and a certificate buffer that is always
+ * enough, and with what the input chooses. The first answer determines the second. The checker is asked about the
+ * certificate that was written, and about one a little different. In the other mode it is asked about the input's
+ * certificate. What it accepts is compared with the comparer's verdict. And the answers of the two games are compared. */
 #include "../../include/nuldopa.h"
 #include "edit.h"
 #include "input.h"
+#include "task.h"
 #include "traps.h"
 #include <stdio.h>
 #include <stdlib.h>
 #include <string.h>
 
 enum {
-    POSITION_BYTES = 8,
+    ATTACK_AT = 1 + NULDOPA_POSITION_BYTES, /* in a record: side, edge, case; then rounds */
+    ROUNDS_AT = ATTACK_AT + 3,
     WHOLE_ENTRIES = 4000,
     WHOLE_TABLE = WHOLE_ENTRIES * NULDOPA_ENTRY_BYTES,
     WHOLE_CERTIFICATE = WHOLE_ENTRIES * NULDOPA_LOST_BYTES
@@ -31,7 +33,7 @@ static void must(int holds, const char *what, int line)
 }
 #define MUST(condition) must((condition) != 0, #condition, __LINE__)
 
-enum { REFUSALS = 16, DIGITS = 33, ROUNDS = 64, CASES = 9, EDGES = 64 };
+enum { REFUSALS = 16, DIGITS = 33, ROUNDS = 64, SEEN_BEFORE = 7, CASES = 9, EDGES = 64, SIZES = NULDOPA_MOST_SEEN + 1 };
 
 /* For libFuzzer: an input that brings an outcome of a game not seen before is worth keeping. Counts of positions, of records
  * and of rounds too many stand by their binary digits. */
@@ -41,6 +43,7 @@ struct outcomes {
     uint8_t kept[DIGITS][DIGITS];       /* by positions and records */
     uint8_t lost[ROUNDS][DIGITS];       /* by positions */
     uint8_t attacks[2][EDGES][CASES];   /* in certificates */
+    uint8_t sizes[SIZES][2];            /* of histories at the start, lost and kept */
     uint8_t accepted[REFUSALS][DIGITS]; /* by what the comparer then answers, and rounds too many */
 };
 static volatile struct outcomes outcomes[2] __attribute__((section("__libfuzzer_extra_counters")));
@@ -135,12 +138,12 @@ static const uint8_t *entry(const struct comparison *c, size_t number)
 
 static uint32_t entry_rounds(const struct comparison *c, size_t number)
 {
-    return rounds_at(entry(c, number) + POSITION_BYTES);
+    return rounds_at(entry(c, number) + NULDOPA_POSITION_BYTES);
 }
 
 static uint32_t record_rounds(const uint8_t *record)
 {
-    return record_bytes(record[0]) == NULDOPA_KEPT_BYTES ? never_lost : rounds_at(record + 12);
+    return record_bytes(record[0]) == NULDOPA_KEPT_BYTES ? never_lost : rounds_at(record + ROUNDS_AT);
 }
 
 static int is_kept(const struct comparison *c)
@@ -151,6 +154,11 @@ static int is_kept(const struct comparison *c)
 static int only_refusal(struct nuldopa_answer a)
 {
     return a.verdict == 0 && a.positions == 0 && a.rounds == 0 && a.length == 0;
+}
+
+static int is_of_certificate(uint32_t refusal)
+{
+    return refusal == NULDOPA_CERTIFICATE_ILL_FORMED || refusal == NULDOPA_CERTIFICATE_NOT_ACCEPTED;
 }
 
 static int same_answer(struct nuldopa_answer a, struct nuldopa_answer b)
@@ -164,14 +172,52 @@ static int is_as_lent(const struct lent *lent, const uint8_t *bytes)
     return lent_guards_hold(lent) && (lent->length == 0 || memcmp(lent->bytes, bytes, lent->length) == 0);
 }
 
-/* 1 to 10 change no buffer; 11 and 12 fill the table with zeros and leave the certificate buffer. */
+/* Refusal 15 is given exactly where the size is above 13 or less than the numbers held together at the start. */
+static void expect_history(uint32_t refusal, const struct lent *task)
+{
+    struct start start;
+    if (nuldopa_is_of_a_record(refusal) && refusal != NULDOPA_BAD_HISTORY)
+        return;
+    read_start(&start, task->bytes, task->length);
+    uint8_t size = start.position[HISTORY_AT];
+    int exists = size <= NULDOPA_MOST_SEEN && size >= held_together(&start, start.position);
+    MUST(exists == (refusal != NULDOPA_BAD_HISTORY));
+}
+
+/* 1 to 10 and 15 change no buffer; 11 and 12 fill the table with zeros and leave the certificate buffer. */
 static void expect_refusal(const struct comparison *c)
 {
-    MUST(c->answer.refusal <= NULDOPA_BUFFER_TOO_SMALL);
+    uint32_t refusal = c->answer.refusal;
+    MUST(nuldopa_is_of_a_record(refusal) || refusal == NULDOPA_TABLE_TOO_SMALL || refusal == NULDOPA_BUFFER_TOO_SMALL);
     MUST(only_refusal(c->answer));
-    uint8_t then = c->answer.refusal < NULDOPA_TABLE_TOO_SMALL ? c->fill : 0;
+    uint8_t then = nuldopa_is_of_a_record(refusal) ? c->fill : 0;
     MUST(all_are(c->table.bytes, c->table.length, then));
     MUST(all_are(c->certificate.bytes, c->certificate.length, c->fill));
+}
+
+/* A position's history is no smaller than what its readers hold together. */
+static void expect_size(const struct start *start, const uint8_t *position)
+{
+    MUST(position[HISTORY_AT] <= NULDOPA_MOST_SEEN);
+    MUST(position[HISTORY_AT] >= held_together(start, position));
+}
+
+/* The start is reached, and a history that has grown has grown by one each time. */
+static void expect_sizes(const struct comparison *c)
+{
+    struct start start;
+    uint8_t reached[NULDOPA_MOST_SEEN + 1] = {0};
+    int start_reached = 0;
+    read_start(&start, c->task.bytes, c->task.length);
+    for (size_t i = 0; i < c->answer.positions; i++) {
+        expect_size(&start, entry(c, i));
+        reached[entry(c, i)[HISTORY_AT]] = 1;
+        start_reached |= memcmp(entry(c, i), start.position, NULDOPA_POSITION_BYTES) == 0;
+    }
+    MUST(start_reached);
+    for (uint8_t size = 0; size <= NULDOPA_MOST_SEEN; size++)
+        MUST(!reached[size] || size == start.position[HISTORY_AT] || (size > 0 && reached[size - 1]));
+    seen(&c->game->outcomes->sizes[start.position[HISTORY_AT]][c->answer.verdict == c->game->kept]);
 }
 
 /* The positions reached, rising, then zeros. */
@@ -181,15 +227,16 @@ static void expect_table(const struct comparison *c)
     MUST(c->answer.positions >= 1);
     MUST(filled <= c->table.length);
     for (size_t i = 1; i < c->answer.positions; i++)
-        MUST(memcmp(entry(c, i - 1), entry(c, i), POSITION_BYTES) < 0);
+        MUST(memcmp(entry(c, i - 1), entry(c, i), NULDOPA_POSITION_BYTES) < 0);
     MUST(all_are(c->table.bytes + filled, c->table.length - filled, 0));
+    expect_sizes(c);
 }
 
 /* From an entry on, the one of the record's position. Where the start is kept every position never lost is listed, so it
  * passes over none. */
 static size_t entry_listed(const struct comparison *c, size_t number, const uint8_t *record)
 {
-    while (number < c->answer.positions && memcmp(entry(c, number), record + 1, POSITION_BYTES) != 0) {
+    while (number < c->answer.positions && memcmp(entry(c, number), record + 1, NULDOPA_POSITION_BYTES) != 0) {
         MUST(!is_kept(c) || entry_rounds(c, number) != never_lost);
         number++;
     }
@@ -197,17 +244,22 @@ static size_t entry_listed(const struct comparison *c, size_t number, const uint
     return number;
 }
 
-/* Side, edge and case are 0 in rounds 0; otherwise each exists, and the side attacks in this game. */
-static void expect_attack(const struct game *game, const uint8_t *record)
+/* Side, edge and case are 0 in rounds 0; otherwise each exists, and the side attacks in this game. A number seen before, case
+ * 7, is one that neither reader holds. */
+static void expect_attack(const struct comparison *c, const uint8_t *record)
 {
+    struct start start;
+    const uint8_t *position = record + 1, *attack = record + ATTACK_AT;
     if (record_rounds(record) == 0) {
-        MUST(all_are(record + 9, 3, 0));
-    } else {
-        MUST(record[9] >= 1 && record[9] <= game->last_side);
-        MUST(record[10] < EDGES);
-        MUST(record[11] < CASES);
-        seen(&game->outcomes->attacks[record[9] - 1][record[10]][record[11]]);
+        MUST(all_are(attack, 3, 0));
+        return;
     }
+    MUST(attack[0] >= 1 && attack[0] <= c->game->last_side);
+    MUST(attack[1] < EDGES);
+    MUST(attack[2] < CASES);
+    read_start(&start, c->task.bytes, c->task.length);
+    MUST(attack[2] != SEEN_BEFORE || position[HISTORY_AT] > held_together(&start, position));
+    seen(&c->game->outcomes->attacks[attack[0] - 1][attack[1]][attack[2]]);
 }
 
 /* Records of the verdict's kind, rising, with the rounds of the table. Of lost ones only the start has the answer's rounds,
@@ -220,7 +272,7 @@ static void expect_records(const struct comparison *c)
         number = entry_listed(c, number, record);
         MUST(record_rounds(record) == entry_rounds(c, number));
         if (!is_kept(c)) {
-            expect_attack(c->game, record);
+            expect_attack(c, record);
             MUST(record_rounds(record) <= c->answer.rounds);
             with_answer += record_rounds(record) == c->answer.rounds;
         }
@@ -270,12 +322,26 @@ static void compare(struct comparison *c, const struct input *input, enum edge e
     MUST(is_as_lent(&c->task, input->task));
     MUST(lent_guards_hold(&c->table));
     MUST(lent_guards_hold(&c->certificate));
+    expect_history(c->answer.refusal, &c->task);
     if (c->answer.refusal != 0)
         expect_refusal(c);
     else
         expect_verdict(c);
     seen(&game->outcomes->compared[c->answer.refusal]);
     game->totals->compared[c->answer.refusal]++;
+}
+
+/* The records of an accepted certificate rise, and have histories that can be. */
+static void expect_accepted(const struct check *made)
+{
+    struct start start;
+    const uint8_t *records = made->certificate.bytes;
+    size_t bytes = record_bytes(made->answer.verdict);
+    read_start(&start, made->task.bytes, made->task.length);
+    for (size_t at = 0; at < made->certificate.length; at += bytes) {
+        expect_size(&start, records + at + 1);
+        MUST(at == 0 || memcmp(records + at - bytes + 1, records + at + 1, NULDOPA_POSITION_BYTES) < 0);
+    }
 }
 
 /* Acceptance has a verdict and rounds, a refusal nothing but its number; 11 and 12 are not given. */
@@ -287,8 +353,7 @@ static void expect_checked(const struct game *game, struct nuldopa_answer a)
         MUST(a.positions == 0 && a.length == 0);
     } else {
         MUST(only_refusal(a));
-        MUST(a.refusal <= NULDOPA_CERTIFICATE_NOT_ACCEPTED);
-        MUST(a.refusal <= NULDOPA_BAD_PAIR || a.refusal >= NULDOPA_CERTIFICATE_ILL_FORMED);
+        MUST(nuldopa_is_of_a_record(a.refusal) || is_of_certificate(a.refusal));
     }
 }
 
@@ -301,6 +366,9 @@ static struct nuldopa_answer checked(const struct game *game, const struct input
     MUST(is_as_lent(&check.task, input->task));
     MUST(is_as_lent(&check.certificate, certificate));
     expect_checked(game, check.answer);
+    expect_history(check.answer.refusal, &check.task);
+    if (check.answer.refusal == 0)
+        expect_accepted(&check);
     seen(&game->outcomes->checked[check.answer.refusal][binary_digits(length / NULDOPA_KEPT_BYTES)]);
     return check.answer;
 }
@@ -330,8 +398,8 @@ static void check_own(const struct comparison *whole, const struct input *input)
 static void check_empty(const struct comparison *whole, const struct input *input)
 {
     uint32_t refusal = whole->answer.refusal;
-    int read = refusal == 0 || refusal > NULDOPA_BAD_PAIR;
-    MUST(checked(whole->game, input, input->task, 0).refusal == (read ? NULDOPA_CERTIFICATE_NOT_ACCEPTED : refusal));
+    uint32_t expected = nuldopa_is_of_a_record(refusal) ? refusal : NULDOPA_CERTIFICATE_NOT_ACCEPTED;
+    MUST(checked(whole->game, input, input->task, 0).refusal == expected);
 }
 
 /* What is refused with these sizes, by what the whole comparison needed. */
@@ -392,7 +460,7 @@ static void check_edited(const struct comparison *whole, const struct input *inp
     if (answer.refusal == 0)
         expect_agreement(whole, answer);
     else
-        MUST(answer.refusal >= NULDOPA_CERTIFICATE_ILL_FORMED);
+        MUST(is_of_certificate(answer.refusal));
 }
 
 static void try_comparer(struct comparison *whole, const struct input *input)
@@ -414,7 +482,7 @@ static void expect_games_agree(void)
     MUST(left->answer.refusal == both->answer.refusal);
     MUST(left->answer.positions == both->answer.positions);
     for (size_t i = 0; i < left->answer.positions; i++) {
-        MUST(memcmp(entry(left, i), entry(both, i), POSITION_BYTES) == 0);
+        MUST(memcmp(entry(left, i), entry(both, i), NULDOPA_POSITION_BYTES) == 0);
         MUST(entry_rounds(left, i) >= entry_rounds(both, i));
     }
     MUST(both->answer.verdict != NULDOPA_EQUAL || left->answer.verdict == NULDOPA_FOLLOWS);
@@ -425,7 +493,7 @@ static uint32_t try_checker(struct comparison *whole, const struct input *input)
 {
     struct nuldopa_answer answer = checked(whole->game, input, input->proposed, input->proposed_length);
     whole->game->totals->proposed[answer.refusal]++;
-    if (answer.refusal > NULDOPA_BAD_PAIR)
+    if (is_of_certificate(answer.refusal))
         return answer.refusal;
     compare_whole(whole, input);
     if (answer.refusal == 0)
@@ -438,8 +506,7 @@ static uint32_t try_checker(struct comparison *whole, const struct input *input)
 /* No kind belongs to both games, so one of them meets 13 unless the task is refused or there is no record. */
 static void expect_one_game(const struct input *input, uint32_t refusal, uint32_t refusal_one_way)
 {
-    int read = refusal == 0 || refusal > NULDOPA_BAD_PAIR;
-    if (read && input->proposed_length > 0)
+    if (!nuldopa_is_of_a_record(refusal) && input->proposed_length > 0)
         MUST(refusal == NULDOPA_CERTIFICATE_ILL_FORMED || refusal_one_way == NULDOPA_CERTIFICATE_ILL_FORMED);
     else
         MUST(refusal == refusal_one_way);

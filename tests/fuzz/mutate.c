@@ -1,25 +1,19 @@
 /* How inputs are changed. libFuzzer changes bytes as it does by itself. Since most bytes of a task or of a certificate have
- * few allowed values, that alone would mostly meet refusals 1 to 10 and 13; so three times of four what was changed is then
+ * few allowed values, that alone would mostly meet refusals 1 to 10, 13 and 15; so three times of four what was changed is then
  * mended: the task to one that is read, the certificate to whole records of one kind that rise. */
 #include "../../include/nuldopa.h"
 #include "edit.h"
 #include "input.h"
+#include "task.h"
 #include <stdlib.h>
 #include <string.h>
 
 enum {
-    MOST_REGISTERS = 6,
-    MOST_STATES = 16,
     MOST_EDGES = 64,
     TAGS = 32,
-    HEADER = 1,
-    STATE = 2,
-    EDGE = 3,
-    PAIR = 4,
-    END = 15,
-    EDGE_BODY = 5,
+    SIZES = NULDOPA_MOST_SEEN + 1,
     KINDS = 4, /* of certificate records */
-    MOST_TASK_BYTES = 923
+    MOST_TASK_BYTES = 925
 };
 
 struct model {
@@ -29,31 +23,17 @@ struct model {
     uint8_t edges[MOST_EDGES][EDGE_BODY];
 };
 
-/* Two models and the right partners of left registers 1 to 6. */
+/* Two models, the right partners of left registers 1 to 6, and the history's size where it is stated. */
 struct mended {
     struct model models[2];
     size_t headers;
     uint8_t partners[MOST_REGISTERS];
+    int states_history;
+    uint8_t history;
 };
 
 size_t LLVMFuzzerMutate(uint8_t *bytes, size_t length, size_t most);
 size_t LLVMFuzzerCustomMutator(uint8_t *bytes, size_t length, size_t most, unsigned seed);
-
-/* Bytes of a kind's body; none if it does not exist, so that its byte alone is passed over. */
-static size_t body_bytes(uint8_t kind)
-{
-    switch (kind) {
-    case HEADER:
-    case STATE:
-        return 3;
-    case EDGE:
-        return EDGE_BODY;
-    case PAIR:
-        return 2;
-    default:
-        return 0;
-    }
-}
 
 static void take_header(struct mended *m, const uint8_t *body)
 {
@@ -79,6 +59,12 @@ static void take_edge(struct model *model, const uint8_t *body)
         memcpy(model->edges[model->edge_count++], body, EDGE_BODY);
 }
 
+static void take_history(struct mended *m, uint8_t size)
+{
+    m->states_history = 1;
+    m->history = size;
+}
+
 static void take_record(struct mended *m, uint8_t kind, const uint8_t *body)
 {
     struct model *model = &m->models[m->headers == 2];
@@ -90,6 +76,8 @@ static void take_record(struct mended *m, uint8_t kind, const uint8_t *body)
         take_edge(model, body);
     else if (kind == PAIR && body[0] >= 1 && body[0] <= MOST_REGISTERS)
         m->partners[body[0] - 1] = body[1];
+    else if (kind == HISTORY)
+        take_history(m, body[0]);
 }
 
 static void take_records(struct mended *m, const uint8_t *task, size_t length)
@@ -161,6 +149,23 @@ static void mend_pairs(struct mended *m)
     }
 }
 
+static uint8_t bits(uint8_t set)
+{
+    return (uint8_t)__builtin_popcount(set);
+}
+
+/* A size that exists, and no less than the numbers that the start states hold together. */
+static void mend_history(struct mended *m)
+{
+    const struct model *left = &m->models[0], *right = &m->models[1];
+    uint8_t held = (uint8_t)(bits(left->sets[left->start]) + bits(right->sets[right->start]));
+    for (size_t i = 0; i < MOST_REGISTERS; i++)
+        held = (uint8_t)(held - (m->partners[i] != 0));
+    m->history %= SIZES;
+    if (m->history < held)
+        m->history = held;
+}
+
 static uint8_t *write_record(uint8_t *to, uint8_t kind, const uint8_t *body)
 {
     *to++ = kind;
@@ -184,20 +189,37 @@ static size_t write_task(uint8_t *task, const struct mended *m)
     for (uint8_t i = 0; i < MOST_REGISTERS; i++)
         if (m->partners[i] != 0)
             to = write_record(to, PAIR, (uint8_t[]){(uint8_t)(i + 1), m->partners[i]});
+    if (m->states_history)
+        to = write_record(to, HISTORY, &m->history);
     *to++ = END;
     return (size_t)(to - task);
 }
 
-static void mend_task(struct input *input)
+static void write_mended(struct input *input, struct mended *m)
 {
     static uint8_t task[MOST_TASK_BYTES];
+    mend_model(&m->models[0]);
+    mend_model(&m->models[1]);
+    mend_pairs(m);
+    mend_history(m);
+    input->task_length = write_task(task, m);
+    input->task = task;
+}
+
+static void mend_task(struct input *input)
+{
     struct mended m = {0};
     take_records(&m, input->task, input->task_length);
-    mend_model(&m.models[0]);
-    mend_model(&m.models[1]);
-    mend_pairs(&m);
-    input->task_length = write_task(task, &m);
-    input->task = task;
+    write_mended(input, &m);
+}
+
+/* The same task with a history size that the number chooses. */
+static void choose_history(struct input *input, unsigned random)
+{
+    struct mended m = {0};
+    take_records(&m, input->task, input->task_length);
+    take_history(&m, (uint8_t)(random % SIZES));
+    write_mended(input, &m);
 }
 
 static int by_kept(const void *a, const void *b)
@@ -254,8 +276,12 @@ static void mutate_checked(struct input *input, unsigned way, unsigned random)
     mend_certificate(input);
 }
 
-static void mutate_compared(struct input *input)
+static void mutate_compared(struct input *input, unsigned way, unsigned random)
 {
+    if (way == 1 && random % 2 == 0) {
+        choose_history(input, random / 2);
+        return;
+    }
     mutate_part(&input->task, &input->task_length);
     mend_task(input);
 }
@@ -270,7 +296,7 @@ size_t LLVMFuzzerCustomMutator(uint8_t *bytes, size_t length, size_t most, unsig
     if (input.calls_checker)
         mutate_checked(&input, way, seed / 4);
     else
-        mutate_compared(&input);
+        mutate_compared(&input, way, seed / 4);
     size_t written = input_write(&input, bytes, most);
     return written != 0 ? written : LLVMFuzzerMutate(bytes, length, most);
 }

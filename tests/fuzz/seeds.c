@@ -1,13 +1,15 @@
 /* seeds FOLDER TASK...: writes inputs of the fuzzer into the folder, three for each task file: one for the comparers, its
- * lent sizes by turns exact, near what is needed and small; and for the checkers one with each comparer's certificate. */
+ * lent sizes by turns exact, near what is needed and small; and for the checkers one with each comparer's certificate. Then
+ * three more with a history size, 0 to 14 by turns, in the place of the file's own. */
 #include "../../include/nuldopa.h"
 #include "input.h"
+#include "task.h"
 #include <stdio.h>
 #include <stdlib.h>
 
-enum { ENTRIES = 4000 };
+enum { ENTRIES = 4000, SIZES = NULDOPA_MOST_SEEN + 2, HISTORY_BYTES = 3 };
 
-static uint8_t task[MOST_INPUT_BYTES], bytes[MOST_INPUT_BYTES];
+static uint8_t task[MOST_INPUT_BYTES + HISTORY_BYTES], bytes[MOST_INPUT_BYTES];
 static uint8_t table[ENTRIES * NULDOPA_ENTRY_BYTES], certificate[ENTRIES * NULDOPA_LOST_BYTES];
 
 static size_t read_file(const char *name)
@@ -17,7 +19,7 @@ static size_t read_file(const char *name)
         perror(name);
         exit(1);
     }
-    size_t length = fread(task, 1, sizeof task, file);
+    size_t length = fread(task, 1, MOST_INPUT_BYTES, file);
     fclose(file);
     return length;
 }
@@ -64,13 +66,29 @@ static void write_inputs(const char *folder, int number, size_t task_length)
     write_checked(folder, number, "check-one-way", &input, nuldopa_compare_one_way);
 }
 
+/* The task up to its pairs, with this history size and an end. Returns its length. */
+static size_t with_history(size_t length, uint8_t size)
+{
+    size_t at = after_pairs(task, length);
+    if (at > length)
+        at = length;
+    task[at] = HISTORY;
+    task[at + 1] = size;
+    task[at + 2] = END;
+    return at + HISTORY_BYTES;
+}
+
 int main(int count, char **arguments)
 {
     if (count < 3) {
         fprintf(stderr, "usage: seeds FOLDER TASK...\n");
         return 2;
     }
-    for (int i = 2; i < count; i++)
-        write_inputs(arguments[1], i - 2, read_file(arguments[i]));
+    int files = count - 2;
+    for (int i = 0; i < files; i++) {
+        size_t length = read_file(arguments[i + 2]);
+        write_inputs(arguments[1], i, length);
+        write_inputs(arguments[1], files + i, with_history(length, (uint8_t)(i % SIZES)));
+    }
     return 0;
 }

@@ -1,18 +1,21 @@
-//! Certificate bytes (01, "Verdict, table, certificate"): positions, kept or lost, with refusal 13. The kind says by which
-//! game; that a check takes the kinds of one game alone is no matter here.
+//! Certificate bytes (01, "Verdict, table, certificate", and 02, ticket 2): positions, kept or lost, with refusal 13. The
+//! kind says by which game; that a check takes the kinds of one game alone is no matter here.
 use crate::game::Game;
-use crate::model::{Side, Task, REGISTERS};
+use crate::model::{Side, Task, MOST_SEEN, REGISTERS};
 use crate::task::Refusal;
 
 /// The bytes of a position in a record, and those of attack and rounds after it.
-const POSITION: usize = 2 + REGISTERS as usize;
+const POSITION: usize = HISTORY + 1;
+const HISTORY: usize = 2 + REGISTERS as usize;
 const ATTACK_AND_ROUNDS: usize = 3 + 4;
 
-/// Two states and the partner of each left register; 0 is none. The derived order is that of the bytes.
+/// Two states, the partner of each left register (0 is none), and how many numbers were seen. The derived order is that of
+/// the bytes.
 #[derive(Clone, Copy, PartialEq, Eq, PartialOrd, Ord, Debug)]
 pub struct Position {
     pub states: [u8; 2],
     pub partners: [u8; REGISTERS as usize],
+    pub history: u8,
 }
 
 impl Position {
@@ -21,15 +24,21 @@ impl Position {
         for &(left, right) in &task.pairs {
             partners[usize::from(left) - 1] = right;
         }
-        let states = [task.models[0].start, task.models[1].start];
-        Position { states, partners }
+        Position {
+            states: [task.models[0].start, task.models[1].start],
+            partners,
+            history: task.history,
+        }
     }
 
     fn of(bytes: &[u8]) -> Position {
         let mut partners = [0; REGISTERS as usize];
-        partners.copy_from_slice(&bytes[2..POSITION]);
-        let states = [bytes[0], bytes[1]];
-        Position { states, partners }
+        partners.copy_from_slice(&bytes[2..HISTORY]);
+        Position {
+            states: [bytes[0], bytes[1]],
+            partners,
+            history: bytes[HISTORY],
+        }
     }
 
     /// The left registers that have a partner, with it.
@@ -44,11 +53,14 @@ impl Position {
         let set = |side: Side| task.model(side).set(self.states[side.index()]);
         let (left_set, right_set) = (set(Side::Left), set(Side::Right));
         let used = |partner| self.pairs().filter(|pair| pair.1 == partner).count();
-        let mut pairs = self.pairs();
+        let joins = |(left, right): (u8, u8)| {
+            left_set.holds(left) && right_set.holds(right) && used(right) == 1
+        };
         Side::BOTH.into_iter().all(exists)
-            && pairs.all(|(left, right)| {
-                left_set.holds(left) && right_set.holds(right) && used(right) == 1
-            })
+            && self.pairs().all(joins)
+            && self.history <= MOST_SEEN
+            && usize::from(self.history) + self.pairs().count()
+                >= usize::from(left_set.count() + right_set.count())
     }
 }
 

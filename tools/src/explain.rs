@@ -22,7 +22,7 @@ pub fn explain(task: &Task, bytes: &[u8]) -> Result<String, Refusal> {
     match list {
         List::Kept(kept) => {
             check_kept(task, game, &kept, &positions)?;
-            Ok(words::kept(game, kept.len()))
+            Ok(words::kept(task, game, kept.len()))
         }
         List::Lost(losses) => {
             let play = Play { task, game, losses };

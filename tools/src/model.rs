@@ -6,6 +6,8 @@ pub const STATES: u8 = 16;
 pub const EDGES: usize = 64;
 /// Tags are the numbers below this one.
 pub const TAGS: u8 = 32;
+/// The greatest history size (02, ticket 2), which means so many numbers or more: one more than two readers hold together.
+pub const MOST_SEEN: u8 = 2 * REGISTERS + 1;
 
 #[derive(Clone, Copy, PartialEq, Eq, Debug)]
 pub enum Side {
@@ -46,6 +48,10 @@ impl RegisterSet {
 
     pub fn registers(self) -> impl Iterator<Item = u8> {
         (1..=8).filter(move |&register| self.holds(register))
+    }
+
+    pub fn count(self) -> u8 {
+        self.0.count_ones() as u8
     }
 }
 
@@ -109,6 +115,8 @@ pub struct Task {
     pub models: [Model; 2],
     /// Left register, right register.
     pub pairs: Vec<(u8, u8)>,
+    /// How many numbers were seen before the start.
+    pub history: u8,
 }
 
 impl Task {

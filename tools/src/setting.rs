@@ -1,10 +1,8 @@
 //! Rounds with actual numbers (01, "Rounds with actual numbers"). No rule for positions is used here: an edge takes a
 //! number or not, and a position is what a setting shows of equal numbers.
 use crate::certificate::Position;
-use crate::model::{Edge, EdgeKind, Model, Side, Task, REGISTERS};
+use crate::model::{Edge, EdgeKind, Model, Side, Task, MOST_SEEN, REGISTERS};
 
-/// A history of this many numbers has one that neither reader holds.
-const HISTORY: u32 = 2 * REGISTERS as u32 + 1;
 /// The id cases that are no register of the other side.
 const SEEN_BEFORE: u8 = REGISTERS + 1;
 const NEVER_SEEN: u8 = REGISTERS + 2;
@@ -79,7 +77,7 @@ pub struct Setting {
 
 impl Setting {
     /// The setting of a legal position with numbers from 1 up: left registers, then right registers without partner,
-    /// then the rest of the history.
+    /// then the rest of the history. Of the greatest size, which means so many numbers or more, it has so many.
     pub fn over(task: &Task, position: &Position) -> Setting {
         let mut readers = position.states.map(|state| Reader {
             state,
@@ -98,7 +96,7 @@ impl Setting {
                 readers[side.index()].numbers[usize::from(register) - 1] = number;
             }
         }
-        let seen = HISTORY;
+        let seen = position.history.into();
         Setting { readers, seen }
     }
 
@@ -122,7 +120,7 @@ impl Setting {
         })
     }
 
-    /// The position: which registers of the two readers hold the same number.
+    /// The position: which registers of the two readers hold the same number, and how many were seen.
     pub fn position(&self) -> Position {
         let mut partners = [0; REGISTERS as usize];
         for (register, number) in self.reader(Side::Left).held() {
@@ -132,6 +130,7 @@ impl Setting {
         Position {
             states: self.readers.map(|reader| reader.state),
             partners,
+            history: self.seen.min(MOST_SEEN.into()) as u8,
         }
     }
 

@@ -1,6 +1,7 @@
-//! Task bytes (01, "The task file"): the table of record kinds, and reading with the refusals 1 to 10.
+//! Task bytes (01, "The task file", and 02, ticket 2): the table of record kinds, and reading with the refusals 1 to 10
+//! and 15.
 use crate::model::{
-    Edge, EdgeKind, Model, RegisterSet, State, Task, EDGES, REGISTERS, STATES, TAGS,
+    Edge, EdgeKind, Model, RegisterSet, State, Task, EDGES, MOST_SEEN, REGISTERS, STATES, TAGS,
 };
 use std::fmt;
 
@@ -8,6 +9,7 @@ pub const HEADER: u8 = 1;
 pub const STATE: u8 = 2;
 pub const EDGE: u8 = 3;
 pub const PAIR: u8 = 4;
+pub const HISTORY: u8 = 5;
 pub const END: u8 = 15;
 
 /// A kind of record: its byte, the length of its body, and what reading one does.
@@ -20,11 +22,12 @@ pub struct Kind {
 /// A later kind of record is one more row.
 #[rustfmt::skip]
 pub const KINDS: &[Kind] = &[
-    Kind { byte: HEADER, length: 3, read: Reading::header },
-    Kind { byte: STATE,  length: 3, read: Reading::state },
-    Kind { byte: EDGE,   length: 5, read: Reading::edge },
-    Kind { byte: PAIR,   length: 2, read: Reading::pair },
-    Kind { byte: END,    length: 0, read: Reading::end },
+    Kind { byte: HEADER,  length: 3, read: Reading::header },
+    Kind { byte: STATE,   length: 3, read: Reading::state },
+    Kind { byte: EDGE,    length: 5, read: Reading::edge },
+    Kind { byte: PAIR,    length: 2, read: Reading::pair },
+    Kind { byte: HISTORY, length: 1, read: Reading::history },
+    Kind { byte: END,     length: 0, read: Reading::end },
 ];
 
 pub struct Record<'a> {
@@ -87,10 +90,14 @@ pub fn read(bytes: &[u8]) -> Result<(Task, Vec<Record<'_>>), Refusal> {
         at += 1 + record.body.len();
         records.push(record);
     }
-    let pairs = reading.pairs;
     let models = <[Model; 2]>::try_from(reading.models)
         .map_err(|_| Refusal::new(2, at, "expected two models"))?;
-    Ok((Task { models, pairs }, records))
+    let task = Task {
+        models,
+        pairs: reading.pairs,
+        history: reading.history.unwrap_or(MOST_SEEN),
+    };
+    Ok((task, records))
 }
 
 /// The record that begins at this place.
@@ -122,6 +129,7 @@ struct Reading {
     /// How many states of the last header are still to come.
     states_due: usize,
     pairs: Vec<(u8, u8)>,
+    history: Option<u8>,
     ended: bool,
 }
 
@@ -135,9 +143,16 @@ impl Reading {
         self.models.len() == 2 && self.complete()
     }
 
+    /// Neither the history's size nor the end has been read.
+    fn before_history(&self) -> bool {
+        self.history.is_none() && !self.ended
+    }
+
     /// The model that the next state or edge belongs to. There is none before the first header and after the models.
     fn model(&mut self, has_all_states: bool) -> Result<&mut Model, Fault> {
-        let open = !self.ended && self.pairs.is_empty() && has_all_states == (self.states_due == 0);
+        let open = self.before_history()
+            && self.pairs.is_empty()
+            && has_all_states == (self.states_due == 0);
         match self.models.last_mut() {
             Some(model) if open => Ok(model),
             _ => Err(misplaced()),
@@ -207,7 +222,7 @@ impl Reading {
 
     fn pair(&mut self, body: &[u8]) -> Check {
         let (left, right) = (body[0], body[1]);
-        require_place(self.both_models() && !self.ended)?;
+        require_place(self.both_models() && self.before_history())?;
         for (model, register, side) in [
             (&self.models[0], left, "left"),
             (&self.models[1], right, "right"),
@@ -226,6 +241,28 @@ impl Reading {
         })?;
         self.pairs.push((left, right));
         Ok(())
+    }
+
+    fn history(&mut self, body: &[u8]) -> Check {
+        let size = body[0];
+        require_place(self.both_models() && self.before_history())?;
+        require(size <= MOST_SEEN, 15, || {
+            format!("expected a history size from 0 to {MOST_SEEN}, found {size}")
+        })?;
+        let held = self.held_at_start();
+        require(size >= held, 15, || {
+            format!(
+                "expected a history of at least what the start states hold together, which is {held}, found {size}"
+            )
+        })?;
+        self.history = Some(size);
+        Ok(())
+    }
+
+    /// The numbers that the two start states hold together: those of a pair are one.
+    fn held_at_start(&self) -> u8 {
+        let sets = self.models.iter().map(|model| model.set(model.start));
+        sets.map(RegisterSet::count).sum::<u8>() - self.pairs.len() as u8
     }
 
     fn end(&mut self, _: &[u8]) -> Check {

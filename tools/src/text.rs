@@ -1,9 +1,9 @@
 //! The text form of a task: one line for each record but the end record, which the end of the text stands for.
 //!
-//! The table below has the form of each line and serves both directions. What a task may not be (refusals 4 to 10) is
-//! not decided here: a text becomes bytes, and the bytes are read.
+//! The table below has the form of each line and serves both directions. What a task may not be (refusals 4 to 10 and 15)
+//! is not decided here: a text becomes bytes, and the bytes are read.
 use crate::model::{Edge, RegisterSet};
-use crate::task::{self, Refusal, EDGE, END, HEADER, KINDS, PAIR, STATE};
+use crate::task::{self, Refusal, EDGE, END, HEADER, HISTORY, KINDS, PAIR, STATE};
 use std::fmt;
 
 /// A part of a line: a fixed word, or the words for one byte of the record's body.
@@ -24,6 +24,7 @@ const NOTHING_YET: u8 = 0;
 const IN_LEFT: u8 = 1;
 const IN_RIGHT: u8 = 2;
 const IN_PAIRS: u8 = 3;
+const AFTER_HISTORY: u8 = 4;
 
 struct Form {
     /// The first word, which no other form has.
@@ -53,6 +54,8 @@ const FORMS: &[Form] = &[
         allowed: (IN_LEFT, IN_RIGHT), leads: None, sorted: true },
     Form { word: "pair", parts: PAIR_PARTS, indent: "", kind: PAIR,
         allowed: (IN_RIGHT, IN_PAIRS), leads: Some(IN_PAIRS), sorted: false },
+    Form { word: "history", parts: HISTORY_PARTS, indent: "", kind: HISTORY,
+        allowed: (IN_RIGHT, IN_PAIRS), leads: Some(AFTER_HISTORY), sorted: false },
 ];
 
 const MODEL: &[Part] = &[
@@ -84,6 +87,8 @@ const PAIR_PARTS: &[Part] = &[
     Word("right"),
     Number(1, "a register from 1 to 6"),
 ];
+
+const HISTORY_PARTS: &[Part] = &[Number(0, "a history size from 0 to 13")];
 
 /// Why a text is no task: the line, what was expected there, and the refusal of 01 where there is one.
 #[derive(Clone, PartialEq, Eq, Debug)]

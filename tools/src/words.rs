@@ -2,25 +2,39 @@
 use crate::certificate::Position;
 use crate::explain::{Attack, Round, Step};
 use crate::game::Game;
-use crate::model::{EdgeKind, Side, Task};
+use crate::model::{EdgeKind, Side, Task, MOST_SEEN};
 use crate::setting::{Answer, Hindrance, Reader, Setting};
 use crate::text;
 use std::collections::BTreeMap;
 
 /// What it means that so many positions were kept.
-pub fn kept(game: Game, count: usize) -> String {
+pub fn kept(task: &Task, game: Game, count: usize) -> String {
     let kept = counted(count, "position was kept", "positions were kept");
+    let seen = seen_before(task.history);
     match game {
         Game::Equality => format!(
-            "EQUAL: the readers cannot be told apart, and {kept}.\n{}\n",
+            "EQUAL: the readers cannot be told apart, and {kept}.\n{seen}.\n{}\n",
             answered("one reader", "the other")
         ),
         Game::OneWay => format!(
-            "FOLLOWS: right takes all that left takes, and {kept}.\n{}\n\
+            "FOLLOWS: right takes all that left takes, and {kept}.\n{seen}.\n{}\n\
              Where left has end mark 1 in a kept position, right has it too.\n",
             answered("left", "right")
         ),
     }
+}
+
+/// The history at the start.
+fn seen_before(size: u8) -> String {
+    let seen = match size {
+        0 => "No number was".into(),
+        MOST_SEEN => format!("{size} numbers or more were"),
+        _ => format!(
+            "Exactly {}",
+            counted(size.into(), "number was", "numbers were")
+        ),
+    };
+    format!("{seen} seen before the start")
 }
 
 fn answered(attacker: &str, other: &str) -> String {
@@ -41,7 +55,7 @@ pub fn lost(task: &Task, game: Game, steps: &[Step]) -> String {
         steps,
         places,
     };
-    let mut text = opening(game, steps);
+    let mut text = opening(task, game, steps);
     for (place, step) in steps.iter().enumerate() {
         text += &format!("\nStep {}, {}:\n", place + 1, to_go(step.rounds));
         for line in story.step(step) {
@@ -51,7 +65,7 @@ pub fn lost(task: &Task, game: Game, steps: &[Step]) -> String {
     text
 }
 
-fn opening(game: Game, steps: &[Step]) -> String {
+fn opening(task: &Task, game: Game, steps: &[Step]) -> String {
     let Some(first) = steps.first() else {
         return String::new();
     };
@@ -66,10 +80,12 @@ fn opening(game: Game, steps: &[Step]) -> String {
         Game::Equality => "DIFFER: the readers can be told apart",
         Game::OneWay => "FALLS SHORT: right falls short of left, as left can show",
     };
-    format!(
-        "{claim} {within}.\nBefore step 1 the numbers 1 to {} have been seen.\n",
-        first.setting.seen()
-    )
+    let here = match task.history {
+        0 => String::new(),
+        1 => ", here 1".into(),
+        size => format!(", here 1 to {size}"),
+    };
+    format!("{claim} {within}.\n{}{here}.\n", seen_before(task.history))
 }
 
 fn to_go(rounds: u32) -> String {

@@ -3,8 +3,9 @@ use std::io::{Read, Write};
 use std::process::{Child, ChildStdin, ChildStdout, Command, Stdio};
 use tools::game::Game;
 
-const TABLE: usize = 12 * 4000;
-const BUFFER: usize = 16 * 4000;
+const ENTRIES: usize = 4000;
+const TABLE: usize = 13 * ENTRIES;
+const BUFFER: usize = 17 * ENTRIES;
 
 pub struct Adapter {
     child: Child,

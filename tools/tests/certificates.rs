@@ -27,9 +27,10 @@ const VERDICTS: [Verdict; 4] = [
 const ALTERED: usize = 8_000;
 /// In each game an altered certificate is accepted, or refused with 13 or with 14, so often at least.
 const LEAST: usize = 100;
-/// The lengths of the records of kept and of lost positions.
-const KEPT: usize = 9;
-const LOST: usize = 16;
+/// The lengths of the records of kept and of lost positions, and where the history's size stands in both.
+const KEPT: usize = 10;
+const LOST: usize = 17;
+const SIZE: usize = 9;
 
 struct Compared {
     task: Vec<u8>,
@@ -152,7 +153,7 @@ fn altered_certificates(reference: &mut Adapter, all: &[Compared]) -> Result<(),
     same("each often enough", enough, true)
 }
 
-/// A certificate with a record left out, a small change of a byte, or an end cut off.
+/// A certificate with a record left out or put in, a small change of a byte, or an end cut off.
 fn altered(compared: &Compared, random: &mut Random) -> Vec<u8> {
     let mut bytes = compared.certificate.clone();
     let length = compared.record_length();
@@ -163,6 +164,13 @@ fn altered(compared: &Compared, random: &mut Random) -> Vec<u8> {
         2 => {
             let place = random.below(bytes.len());
             bytes[place] = random.byte();
+        }
+        3 => {
+            // The same position after it, with a number more in the history.
+            let mut larger = bytes[record..record + length].to_vec();
+            larger[SIZE] += 1;
+            let place = record + length;
+            bytes.splice(place..place, larger);
         }
         _ => {
             let place = record + random.below(length);

@@ -12,8 +12,11 @@ const COUNT: usize = 10_000;
 /// So many of each sort go through the program too; starting it for all would take too long.
 const STARTED: usize = 300;
 const ALTERED: usize = 20_000;
-/// Every refusal is met so often at least.
+/// Every refusal of a record is met so often at least.
 const LEAST: usize = 50;
+const REFUSALS: [u8; 11] = [1, 2, 3, 4, 5, 6, 7, 8, 9, 10, 15];
+/// And so often a task is read that states a history size.
+const LEAST_STATED: usize = 500;
 
 /// The generated tasks' bytes, in the order of their numbers.
 pub fn tasks() -> Result<Vec<Vec<u8>>, String> {
@@ -35,7 +38,7 @@ pub fn tasks() -> Result<Vec<Vec<u8>>, String> {
 pub fn run(tally: &mut Tally, tasks: &[Vec<u8>]) -> Result<(), String> {
     tally.check("generated tasks", same("their count", tasks.len(), COUNT));
     let mut reference = Adapter::start()?;
-    let mut counts = [0; 11];
+    let mut counts = [0; 16];
     let outcome = tasks.iter().enumerate().try_for_each(|(number, bytes)| {
         let refusal =
             read_alike(&mut reference, bytes).map_err(|words| format!("task {number}: {words}"))?;
@@ -44,19 +47,29 @@ pub fn run(tally: &mut Tally, tasks: &[Vec<u8>]) -> Result<(), String> {
     });
     tally.check("read like the reference, and text there and back", outcome);
     reference.stop()?;
+    let refused = REFUSALS.map(|number| counts[usize::from(number)]);
     println!(
-        "{} tasks there and back, refusals 1 to 10: {:?}",
-        counts[0],
-        &counts[1..]
+        "{} tasks there and back, refusals 1 to 10 and 15: {refused:?}",
+        counts[0]
     );
-    let enough = counts.iter().all(|&count| count >= LEAST);
+    let enough = refused.iter().all(|&count| count >= LEAST);
     tally.check(
         "every refusal is met often enough",
         same("that", enough, true),
     );
+    tally.check("enough histories are stated", histories_stated(tasks));
     tally.check("the program on generated tasks", through_program(tasks));
     tally.check("altered texts", altered_texts(tasks));
     Ok(())
+}
+
+fn histories_stated(tasks: &[Vec<u8>]) -> Result<(), String> {
+    let texts = tasks
+        .iter()
+        .filter_map(|bytes| text::from_bytes(bytes).ok());
+    let stated = texts.filter(|text| text.contains("\nhistory ")).count();
+    println!("{stated} of them state a history size");
+    same("so many", stated >= LEAST_STATED, true)
 }
 
 /// The refusal, 0 if there is none.
@@ -128,9 +141,14 @@ fn dump_of(task: &Task) -> Vec<u8> {
         dump.extend(edges.iter().flat_map(|edge| edge.body()));
     }
     dump.push(task.pairs.len() as u8);
-    let Position { states, partners } = Position::start(task);
+    let Position {
+        states,
+        partners,
+        history,
+    } = Position::start(task);
     dump.extend(states);
     dump.extend(partners);
+    dump.push(history);
     dump
 }
 
@@ -178,7 +196,7 @@ fn altered_texts(tasks: &[Vec<u8>]) -> Result<(), String> {
                     true,
                 )?;
                 let number = problem.refusal.unwrap_or(4);
-                same("a refusal of fields", (4..=10).contains(&number), true)?;
+                same("a refusal of fields", REFUSALS[3..].contains(&number), true)?;
                 refused += usize::from(problem.refusal.is_some());
             }
         }
@@ -188,8 +206,9 @@ fn altered_texts(tasks: &[Vec<u8>]) -> Result<(), String> {
 }
 
 fn altered(text: &str, random: &mut Random) -> String {
-    const WORDS: [&str; 12] = [
-        "left", "pair", "edge", "known", "globally", "nothing", "0", "2", "7", "40", "999", "#",
+    const WORDS: [&str; 13] = [
+        "left", "pair", "history", "edge", "known", "globally", "nothing", "0", "2", "7", "40",
+        "999", "#",
     ];
     let mut lines: Vec<String> = text.lines().map(str::to_string).collect();
     let (one, other) = (random.below(lines.len()), random.below(lines.len()));

@@ -63,14 +63,25 @@ const WRONG_LINES: &[(usize, &str, &str)] = &[
     (6, "left registers 2 start 0", "line 6: expected `right`, `state` or `edge`, found `left`"),
     (6, "right registers 2 start 1", "REFUSED 4 at line 6: expected a start state that exists, found 1"),
     (7, "", "REFUSED 4 at line 6: expected 1 to 16 states in this model, found 0"),
-    (9, "right registers 2 start 0", "line 9: expected `state`, `edge` or `pair`, found `right`"),
+    (9, "right registers 2 start 0", "line 9: expected `state`, `edge`, `pair` or `history`, found `right`"),
     (9, "pair 1 2", "line 9: expected `left`, found `1`"),
     (9, "pair left 1 right x", "line 9: expected a register from 1 to 6, found `x`"),
     (9, "pair left 2 right 1", "REFUSED 10 at line 9: expected a register that the left start state holds, found 2"),
     (9, "pair left 1 right 3", "REFUSED 10 at line 9: expected a register that the right start state holds, found 3"),
     (9, "pair left 1 right 1\npair left 1 right 2", "REFUSED 10 at line 10: expected left registers to rise, found 1 after 1"),
-    (9, "pair left 1 right 1\nedge from 0 tag 4 known 1 to 0", "line 10: expected `pair`, found `edge`"),
-    (9, "# all is well until here\n\n\u{7}bell", "line 11: expected `state`, `edge` or `pair`, found `\\u{7}bell`"),
+    (9, "pair left 1 right 1\nedge from 0 tag 4 known 1 to 0", "line 10: expected `pair` or `history`, found `edge`"),
+    (9, "# all is well until here\n\n\u{7}bell", "line 11: expected `state`, `edge`, `pair` or `history`, found `\\u{7}bell`"),
+    (4, "history 3", "line 4: expected `right`, `state` or `edge`, found `history`"),
+    (9, "history", "line 9: expected a history size from 0 to 13, found the end of the line"),
+    (9, "history many", "line 9: expected a history size from 0 to 13, found `many`"),
+    (9, "history 256", "line 9: expected a history size from 0 to 13, found `256`"),
+    (9, "history 3 numbers", "line 9: expected the end of the line, found `numbers`"),
+    (9, "history 14", "REFUSED 15 at line 9: expected a history size from 0 to 13, found 14"),
+    (9, "history 2", "REFUSED 15 at line 9: expected a history of at least what the start states hold together, which is 3, found 2"),
+    (9, "pair left 1 right 2\nhistory 1", "REFUSED 15 at line 10: expected a history of at least what the start states hold together, which is 2, found 1"),
+    (9, "history 3\nhistory 3", "line 10: expected nothing more, found `history`"),
+    (9, "history 3\npair left 1 right 2", "line 10: expected nothing more, found `pair`"),
+    (9, "history 3\nedge from 0 tag 4 known 1 to 0", "line 10: expected nothing more, found `edge`"),
 ];
 
 /// Lines that change nothing where they stand in the place of a line.
@@ -130,6 +141,17 @@ fn wrong_texts() -> Vec<(Vec<u8>, &'static str)> {
     ]
 }
 
+/// The good text and a history line are the bytes of the good text with a record of kind 5 before the end, and back.
+fn with_history(size: u8) -> Result<(), String> {
+    let written = format!("{}\nhistory {size}\n", GOOD.join("\n"));
+    let found = text::to_bytes(written.as_bytes()).map_err(|problem| problem.to_string())?;
+    let mut expected = text::to_bytes(GOOD.join("\n").as_bytes()).map_err(|p| p.to_string())?;
+    expected.splice(expected.len() - 1.., [5, size, 15]);
+    same("the bytes", &found, &expected)?;
+    let back = text::from_bytes(&found).map_err(|refusal| refusal.to_string())?;
+    same("the text again", back, written)
+}
+
 pub fn run(tally: &mut Tally) {
     let good_bytes = text::to_bytes((GOOD.join("\n") + "\n").as_bytes());
     tally.check(
@@ -149,6 +171,9 @@ pub fn run(tally: &mut Tally) {
     for (number, line) in SAME_LINES {
         let found = text::to_bytes(with_line(*number, line).as_bytes());
         tally.check("another writing", same(line, &found, &good_bytes));
+    }
+    for size in [2, 3, 12, 13] {
+        tally.check("a stated history", with_history(size));
     }
     let mixed = [0, 4, 1, 3, 2, 5, 7, 6, 8].map(|place| GOOD[place]);
     let found = text::to_bytes(mixed.join("\n").as_bytes());

@@ -49,7 +49,7 @@ impl fmt::Display for Verdict {
     }
 }
 
-/// Why there is no verdict. The numbers are those of the scope paper, in checking order.
+/// Why there is no verdict. The numbers are those of the scope papers. Those of a task's record are checked first.
 #[derive(Clone, Copy, PartialEq, Eq, PartialOrd, Ord, Hash, Debug)]
 pub enum Refusal {
     UnknownRecord = 1,
@@ -66,10 +66,11 @@ pub enum Refusal {
     BufferTooSmall = 12,
     CertificateIllFormed = 13,
     CertificateNotAccepted = 14,
+    BadHistory = 15,
 }
 
 impl Refusal {
-    pub const ALL: [Refusal; 14] = [
+    pub const ALL: [Refusal; 15] = [
         Refusal::UnknownRecord,
         Refusal::TaskCut,
         Refusal::RecordMisplaced,
@@ -84,15 +85,21 @@ impl Refusal {
         Refusal::BufferTooSmall,
         Refusal::CertificateIllFormed,
         Refusal::CertificateNotAccepted,
+        Refusal::BadHistory,
     ];
 
     pub fn number(self) -> u32 {
         self as u32
     }
 
+    /// 1 to 10 and 15, which are about a record of the task: then every buffer is as it was.
+    pub fn is_of_a_record(self) -> bool {
+        self <= Refusal::BadPair || self == Refusal::BadHistory
+    }
+
     fn reason(self) -> &'static str {
         match self {
-            Refusal::UnknownRecord => "a record's kind is not 1, 2, 3, 4 or 15",
+            Refusal::UnknownRecord => "a record's kind is not 1, 2, 3, 4, 5 or 15",
             Refusal::TaskCut => "the task ends inside a record's body or without an end record",
             Refusal::RecordMisplaced => "a record is not allowed at its place",
             Refusal::BadHeader => "a header has too many registers, no or too many states, or no such start state",
@@ -108,6 +115,9 @@ impl Refusal {
             Refusal::BufferTooSmall => "the certificate is longer than its buffer",
             Refusal::CertificateIllFormed => "the proposed certificate is not well formed",
             Refusal::CertificateNotAccepted => "the proposed certificate is well formed and not accepted",
+            Refusal::BadHistory => {
+                "the history's size is above 13 or less than the numbers that the start states hold together"
+            }
         }
     }
 }
@@ -145,7 +155,7 @@ fn verdict(answer: Answer) -> Result<Verdict, Refusal> {
     let named = u8::try_from(answer.verdict).ok().and_then(Verdict::from_number);
     match (answer.refusal, named) {
         (0, Some(verdict)) => Ok(verdict),
-        (number @ 1..=14, _) => Err(Refusal::ALL[number as usize - 1]),
+        (number @ 1..=15, _) => Err(Refusal::ALL[number as usize - 1]),
         _ => panic!("the library returned {answer:?}"),
     }
 }

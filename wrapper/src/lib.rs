@@ -1,8 +1,8 @@
 //! Compares two reader models, and checks certificates: a safe wrapper of the proved static library.
 //!
 //! A comparison answers EQUAL or DIFFER with a certificate, or one of the refusals; the one-way comparison, in which only the
-//! left side attacks, answers FOLLOWS or FALLS SHORT. docs/FORMATS.md says what a task, a position and a certificate are. The
-//! library works in the buffers that it is lent and keeps no memory of its own.
+//! left side attacks, answers FOLLOWS or FALLS SHORT. docs/FORMATS.md says what a task, a position and a certificate are, and
+//! what a stated history size means. The library works in the buffers that it is lent and keeps no memory of its own.
 //!
 //! ```no_run
 //! let task = std::fs::read("readers.task").unwrap();
@@ -28,15 +28,25 @@ pub use answers::{Acceptance, Comparison, Refusal, Verdict};
 pub use records::{records, Attack, Case, Position, Record, Records, Side};
 pub use report::{entries, Entries, Report};
 
-/// Bytes of a table entry: a position, then its rounds.
-pub const ENTRY_LENGTH: usize = 12;
+/// Bytes of a position.
+pub const POSITION_LENGTH: usize = 9;
 
-/// No task reaches more positions, so a table of so many entries is never too small.
-pub const MOST_POSITIONS: usize = 3_411_712;
+/// Bytes of a table entry: a position, then its rounds.
+pub const ENTRY_LENGTH: usize = 13;
 
 /// Bytes of a certificate record: of kinds 16 and 18, and of kinds 17 and 19.
-pub const KEPT_LENGTH: usize = 9;
-pub const LOST_LENGTH: usize = 16;
+pub const KEPT_LENGTH: usize = 10;
+pub const LOST_LENGTH: usize = 17;
+
+/// The greatest history size. It means so many numbers or more, and a task that states no size starts with it.
+pub const MOST_SEEN: u8 = 13;
+
+/// No task reaches more positions of one history size. One that starts with [`MOST_SEEN`] reaches no other, so that a table of
+/// so many entries is never too small for it.
+pub const MOST_POSITIONS_OF_A_SIZE: usize = 3_411_712;
+
+/// No task reaches more positions, so a table of so many entries is never too small.
+pub const MOST_POSITIONS: usize = (MOST_SEEN as usize + 1) * MOST_POSITIONS_OF_A_SIZE;
 
 /// Which side attacks, and which end marks lose at once. The functions below are those of [`Game::Equality`].
 #[derive(Clone, Copy, PartialEq, Eq, Hash, Debug)]
@@ -54,18 +64,19 @@ impl Game {
     /// Compares the two models of a task.
     ///
     /// After a verdict the table holds the positions reached, rising, each with its rounds ([`entries`]), then zeros; and
-    /// the certificate stands at the start of its buffer, the rest of which is unchanged ([`records`]). Refusals 1 to 10
-    /// change neither; 11 and 12 fill the table with zeros and leave the certificate buffer. Refusals 13 and 14 are not
+    /// the certificate stands at the start of its buffer, the rest of which is unchanged ([`records`]). Refusals 1 to 10 and
+    /// 15 change neither; 11 and 12 fill the table with zeros and leave the certificate buffer. Refusals 13 and 14 are not
     /// given.
     ///
-    /// A table of [`MOST_POSITIONS`] entries of [`ENTRY_LENGTH`] bytes is always enough, and so is a certificate buffer of
-    /// [`LOST_LENGTH`] bytes for each entry.
+    /// A table of [`MOST_POSITIONS_OF_A_SIZE`] entries of [`ENTRY_LENGTH`] bytes is enough for a task that states no history
+    /// size, one of [`MOST_POSITIONS`] entries for every task, and a certificate buffer of [`LOST_LENGTH`] bytes for each
+    /// entry.
     pub fn compare(self, task: &[u8], table: &mut [u8], certificate: &mut [u8]) -> Result<Comparison, Refusal> {
         answers::comparison(boundary::compare(self, task, table, certificate))
     }
 
-    /// Compares the two models of a task in a table that grows until it is large enough. Only refusals 1 to 10 are given.
-    /// The largest table and its certificate buffer take 96 MB.
+    /// Compares the two models of a task in a table that grows until it is large enough. Only refusals 1 to 10 and 15 are
+    /// given. Table and certificate buffer take at most 126 MB for a task that states no history size, and 1.5 GB for others.
     pub fn compare_owned(self, task: &[u8]) -> Result<Report, Refusal> {
         report::compare_growing(self, task)
     }

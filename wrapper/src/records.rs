@@ -1,24 +1,28 @@
 //! Certificates, record by record.
-use super::{Verdict, KEPT_LENGTH, LOST_LENGTH};
+use super::{Verdict, KEPT_LENGTH, LOST_LENGTH, POSITION_LENGTH};
 use std::fmt;
 
-/// Two states and the partners of left registers 1 to 6 (0 is none). Positions rise as their bytes do.
+/// Two states, the partners of left registers 1 to 6 (0 is none) and the history's size, of which [`MOST_SEEN`] means so many
+/// numbers or more. Positions rise as their bytes do.
+///
+/// [`MOST_SEEN`]: super::MOST_SEEN
 #[derive(Clone, Copy, PartialEq, Eq, PartialOrd, Ord, Hash, Debug)]
 pub struct Position {
     pub left: u8,
     pub right: u8,
     pub partners: [u8; 6],
+    pub history: u8,
 }
 
 impl Position {
-    pub fn from_bytes(bytes: [u8; 8]) -> Position {
-        let [left, right, partners @ ..] = bytes;
-        Position { left, right, partners }
+    pub fn from_bytes(bytes: [u8; POSITION_LENGTH]) -> Position {
+        let [left, right, partners @ .., history] = bytes;
+        Position { left, right, partners, history }
     }
 
-    pub fn bytes(&self) -> [u8; 8] {
+    pub fn bytes(&self) -> [u8; POSITION_LENGTH] {
         let [a, b, c, d, e, f] = self.partners;
-        [self.left, self.right, a, b, c, d, e, f]
+        [self.left, self.right, a, b, c, d, e, f, self.history]
     }
 }
 
@@ -48,9 +52,10 @@ pub enum Case {
     Held,
     /// Cases 1 to 6: the one that only the other reader holds, in this register.
     Private(u8),
-    /// Case 7: one that was seen before, and that neither reader holds.
+    /// Case 7: one that was seen before, and that neither reader holds. Where the history is no larger than the numbers that
+    /// the readers hold together there is none.
     Seen,
-    /// Case 8: one that was never seen.
+    /// Case 8: one that was never seen. The history's size rises by one.
     New,
 }
 
@@ -144,8 +149,12 @@ impl Iterator for Records<'_> {
     }
 }
 
+/// Where the attack's fields stand in a record, after kind and position, and where rounds stand.
+const ATTACK: usize = 1 + POSITION_LENGTH;
+const ROUNDS: usize = ATTACK + 3;
+
 fn position(record: &[u8]) -> Option<Position> {
-    Some(Position::from_bytes(record.get(1..9)?.try_into().ok()?))
+    Some(Position::from_bytes(record.get(1..ATTACK)?.try_into().ok()?))
 }
 
 fn kept(record: &[u8]) -> Option<Record> {
@@ -153,8 +162,8 @@ fn kept(record: &[u8]) -> Option<Record> {
 }
 
 fn lost(record: &[u8]) -> Option<Record> {
-    let rounds = u32::from_be_bytes(record.get(12..16)?.try_into().ok()?);
-    let attack = match (rounds, &record[9..12]) {
+    let rounds = u32::from_be_bytes(record.get(ROUNDS..LOST_LENGTH)?.try_into().ok()?);
+    let attack = match (rounds, &record[ATTACK..ROUNDS]) {
         (0, [0, 0, 0]) => None,
         (0, _) => return None,
         (_, fields) => Some(attack(fields)?),

@@ -1,5 +1,6 @@
 //! A comparison in memory of its own.
-use super::{records, Game, Position, Records, Refusal, Verdict, ENTRY_LENGTH, LOST_LENGTH, MOST_POSITIONS};
+use super::{records, Game, Position, Records, Refusal, Verdict};
+use super::{ENTRY_LENGTH, LOST_LENGTH, MOST_POSITIONS, POSITION_LENGTH};
 
 /// A verdict with its table and its certificate.
 #[derive(Clone, PartialEq, Eq, Debug)]
@@ -58,7 +59,7 @@ pub struct Entries<'a> {
     rest: std::slice::ChunksExact<'a, u8>,
 }
 
-/// The first entries of a table; lend it as many bytes as there are positions reached, 12 each.
+/// The first entries of a table; lend it as many bytes as there are positions reached, [`ENTRY_LENGTH`] each.
 pub fn entries(table: &[u8]) -> Entries<'_> {
     Entries { rest: table.chunks_exact(ENTRY_LENGTH) }
 }
@@ -67,7 +68,7 @@ impl Iterator for Entries<'_> {
     type Item = (Position, Option<u32>);
 
     fn next(&mut self) -> Option<Self::Item> {
-        let (position, rounds) = self.rest.next()?.split_at(8);
+        let (position, rounds) = self.rest.next()?.split_at(POSITION_LENGTH);
         let position = Position::from_bytes(position.try_into().ok()?);
         let rounds = u32::from_be_bytes(rounds.try_into().ok()?);
         Some((position, Some(rounds).filter(|&n| n != u32::MAX)))

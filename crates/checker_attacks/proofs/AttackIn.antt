@@ -6,7 +6,7 @@ use mathlib.Core.List.{List}
 use lib.Dec.{ltb, eqb}
 use Rattle.fra.specs.Model.{setOf, edgeOf}
 use Rattle.fra.specs.Rules.{other}
-use Rattle.fra.specs.Position.{stateOf}
+use Rattle.fra.specs.Position.{stateOf, hasRoom}
 use Rattle.fra.specs.Game.{isAttack}
 use Rattle.fra.specs.declared.Position.{Position}
 use Rattle.fra.specs.declared.Attack.{Attack}
@@ -20,7 +20,7 @@ pub attack-in : (b : List ℕ) (p : Position) (a : Attack)
     ≡ (rulesIn b .attacks (a .side)
     && ltb (a .edge) (modelIn b (a .side) .«edge_count»)
     && eqb (edgeOf (modelIn b (a .side)) (a .edge) .from) (stateOf p (a .side))
-    && hasCaseIn (setOf (modelIn b (other (a .side))) (stateOf p (other (a .side)))) p (a .side)
+    && hasCaseIn (setOf (modelIn b (other (a .side))) (stateOf p (other (a .side)))) (hasRoom (taskIn b) p) p (a .side)
     (edgeOf (modelIn b (a .side)) (a .edge) .kind)
     (a .case))
 unfolding isAttack

@@ -82,5 +82,6 @@ pub fn is_attack(index: &[u8; SIZE], p: Position, a: Attack) -> bool
     let kind = e.kind;
     let away = side.other();
     let others = game_index::set_of(index, away, p.state(away));
-    has_case(p, side, kind, others, case)
+    let room = game_index::has_room(index, p);
+    has_case(p, side, kind, others, room, case)
 }

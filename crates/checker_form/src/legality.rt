@@ -46,7 +46,8 @@ fn matching(left: u8, right: u8, partners: [u8; 6]) -> bool
     true
 }
 
-// The states exist, and the partners are a matching of their register sets.
+// The states exist, the partners are a matching of their register sets, and the history's size is neither too small for the numbers
+// held together nor above the greatest.
 pub fn legal(index: &[u8; SIZE], p: Position) -> bool
     ensures { λ r. ⌜ r ≡ legal 6 (taskIn (now (index .entry))) p ⌝ }
 {
@@ -58,9 +59,9 @@ pub fn legal(index: &[u8; SIZE], p: Position) -> bool
         return false;
     }
     let left = game_index::set_of(index, Side::Left, p.left);
-    matching(
-        left,
-        game_index::set_of(index, Side::Right, p.right),
-        partners,
-    )
+    let right = game_index::set_of(index, Side::Right, p.right);
+    if !matching(left, right, partners) {
+        return false;
+    }
+    (p.held(left, right) <= p.history) & (p.history <= Position::MOST_SEEN)
 }

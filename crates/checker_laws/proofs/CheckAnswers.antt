@@ -12,7 +12,7 @@ use Rattle.fra.specs.declared.Task.{Task}
 use Rattle.fra.specs.declared.Game.{Game}
 use Rattle.fra.specs.declared.Game.the-variants.{BothAttack, LeftAttacks}
 use Rattle.outcome.specs.Certificate.{Loss}
-use Rattle.outcome.specs.Check.{lossFrom, bodies, judgeList, checkKept, checkLosses, checkTask}
+use Rattle.outcome.specs.Check.{lossFrom, keptLength, lossLength, bodies, judgeList, checkKept, checkLosses, checkTask}
 use Rattle.outcome.specs.Refusals.{records}
 use Rattle.outcome.specs.Verdicts.{contestOf, verdictOf, kindOf}
 use Rattle.outcome.specs.declared.Check.the-variants.{Refused}
@@ -39,21 +39,25 @@ splits t kind size rounds l = step (bodies kind size (suc (length l)) l) refl
         broken (rw f (formed-stops t kind size rounds bs w b rest s))
 
 module _ (g : Game) (t : Task) (l : List ℕ) where
-  kept-answer : (o : Option (List (List ℕ))) → Splits t (kindOf (verdictOf g Kept)) 8 0 l o
+  kept-answer : (o : Option (List (List ℕ))) → Splits t (kindOf (verdictOf g Kept)) (keptLength 6) 0 l o
       → checkKept 6 (contestOf g) t o ≡ listAnswer g t Kept l
   unfolding checkKept judgeList
   kept-answer o (whole bs w e) =
-      rw (e, formed-whole t (kindOf (verdictOf g Kept)) 8 0 bs w, positions-read (kindOf (verdictOf g Kept)) 8 bs w 0 (omega arith))
+      rw (
+        e,
+        formed-whole t (kindOf (verdictOf g Kept)) (keptLength 6) 0 bs w,
+        positions-read (kindOf (verdictOf g Kept)) (keptLength 6) bs w 0 (omega arith),
+      )
   kept-answer o (broken e) = rw e
 
-  loss-answer : (o : Option (List (List ℕ))) → Splits t (kindOf (verdictOf g Lost)) 15 lostRounds l o
+  loss-answer : (o : Option (List (List ℕ))) → Splits t (kindOf (verdictOf g Lost)) (lossLength 6) lostRounds l o
       → checkLosses 6 (contestOf g) t o ≡ listAnswer g t Lost l
   unfolding checkLosses judgeList lossFrom
   loss-answer o (whole bs w e) =
       rw (
         e,
-        formed-whole t (kindOf (verdictOf g Lost)) 15 lostRounds bs w,
-        positions-read (kindOf (verdictOf g Lost)) 15 bs w lostRounds (omega arith),
+        formed-whole t (kindOf (verdictOf g Lost)) (lossLength 6) lostRounds bs w,
+        positions-read (kindOf (verdictOf g Lost)) (lossLength 6) bs w lostRounds (omega arith),
         losses-read (kindOf (verdictOf g Lost)) bs w,
         map-map (λ (x : Loss). x .position) (lossFrom 6) bs,
       )
@@ -77,7 +81,7 @@ module _ (g : Game) (t : Task) where
   answer-kept [] p e = absurd (omega arith)
   answer-kept (b ∷ l) p e =
       let k = kindOf (verdictOf g Kept) in
-      rw (eq-eqb b k e, checkTask, e) (kept-answer g t (k ∷ l) _ (splits t k 8 0 (k ∷ l)))
+      rw (eq-eqb b k e, checkTask, e) (kept-answer g t (k ∷ l) _ (splits t k (keptLength 6) 0 (k ∷ l)))
 
   pub answer-lost : (l : List ℕ) → 0 < length l → getD l 0 0 ≡ kindOf (verdictOf g Lost)
       → checkTask 6 (contestOf g) t l ≡ listAnswer g t Lost l
@@ -86,7 +90,7 @@ module _ (g : Game) (t : Task) where
   answer-lost (b ∷ l) p e =
       let k = kindOf (verdictOf g Lost) in
       rw (ne-eqb b (kindOf (verdictOf g Kept)) (λ f. kinds-apart g (sym f ∙ e)), eq-eqb b k e, checkTask, e)
-      (loss-answer g t (k ∷ l) _ (splits t k 15 lostRounds (k ∷ l)))
+      (loss-answer g t (k ∷ l) _ (splits t k (lossLength 6) lostRounds (k ∷ l)))
 
   pub answer-unknown : (l : List ℕ) → 0 < length l → getD l 0 0 ≢ kindOf (verdictOf g Kept) → getD l 0 0 ≢ kindOf (verdictOf g Lost)
       → checkTask 6 (contestOf g) t l ≡ Refused 13

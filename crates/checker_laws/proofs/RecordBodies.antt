@@ -9,10 +9,10 @@ use lib.Seq.{drop-cons, getD-drop, take-append-le, drop-append-le}
 use Rattle.fra.specs.Lists.{count}
 use Rattle.fra_laws.proofs.FixedWidth.{Wide, at-member, records-length, records-from}
 use Rattle.outcome.specs.Bytes.{wordAt}
-use Rattle.outcome.specs.Check.{positionOf, lossFrom}
+use Rattle.outcome.specs.Check.{positionOf, lossFrom, keptLength, lossLength}
 use Rattle.outcome.specs.Refusals.{records}
 use Rattle.outcome_laws.proofs.Bodies.{Whole}
-use Rattle.listing.specs.Widths.{lostWidth, recordPosition}
+use Rattle.listing.specs.Widths.{positionWidth, historyPlace, lostWidth, lostRounds, recordPosition}
 use Rattle.listing.specs.Listing.{positionAt, positionsIn}
 use Rattle.listing.specs.declared.Listing.{Listing}
 use Rattle.checker_laws.specs.CertificateRecords.{lossAt, lossesIn}
@@ -29,40 +29,51 @@ bodyFrom w l i = drop recordPosition (drop (i * w) l)
 -- ── A body decides what is read from it, whatever follows ──
 
 module _ (body rest : List ℕ) where
-  position-ahead : 8 ≤ length body → positionOf 6 (body ++ rest) ≡ positionOf 6 body
+  at : (k : ℕ) → k < length body → getD (body ++ rest) k 0 ≡ getD body k 0
+  at = List·getD-append body rest 0
+
+  position-ahead : keptLength 6 ≤ length body → positionOf 6 (body ++ rest) ≡ positionOf 6 body
   unfolding positionOf
   position-ahead h =
-      let a = List·getD-append body rest 0 0 (omega arith) in
-      let b = List·getD-append body rest 0 1 (omega arith) in
-      let c : take 6 (drop 2 (body ++ rest)) ≡ take 6 (drop 2 body) =
+      let left = at 0 (omega arith) in
+      let right = at 1 (omega arith) in
+      let partners : take 6 (drop 2 (body ++ rest)) ≡ take 6 (drop 2 body) =
       rw (drop-append-le 2 body rest (omega arith), take-append-le 6 (drop 2 body) rest (rw length-drop (omega arith))) in
-      λ i. record { left = a i; right = b i; partners = c i }
+      let size = at historyPlace (omega arith) in
+      λ i. record { left = left i; right = right i; partners = partners i; history = size i }
 
-  loss-ahead : 15 ≤ length body → lossFrom 6 (body ++ rest) ≡ lossFrom 6 body
+  loss-ahead : lossLength 6 ≤ length body → lossFrom 6 (body ++ rest) ≡ lossFrom 6 body
   unfolding lossFrom wordAt
   loss-ahead h =
-      let at : (k : ℕ) → k < length body → getD (body ++ rest) k 0 ≡ getD body k 0 = List·getD-append body rest 0 in
       cc (
         position-ahead (omega arith),
-        at 8 (omega arith),
-        at 9 (omega arith),
-        at 10 (omega arith),
-        at 11 (omega arith),
-        at 12 (omega arith),
-        at 13 (omega arith),
-        at 14 (omega arith),
+        past 0 (omega arith),
+        past 1 (omega arith),
+        past 2 (omega arith),
+        past 3 (omega arith),
+        past 4 (omega arith),
+        past 5 (omega arith),
+        past 6 (omega arith),
       )
+    where
+      -- what follows the position
+      past : (k : ℕ) → positionWidth + k < length body
+          → getD (body ++ rest) (positionWidth + k) 0 ≡ getD body (positionWidth + k) 0
+      past k = at (positionWidth + k)
 
 -- a record of a loss says what its body does
 loss-body : (l : List ℕ) (i : ℕ) → lossAt l i ≡ lossFrom 6 (bodyFrom lostWidth l i)
 unfolding lossAt lossFrom wordAt
-loss-body l i = cc (byte 8, byte 9, byte 10, byte 11, word 1, word 2, word 3)
+loss-body l i = cc (byte 0, byte 1, byte 2, byte 3, word 1, word 2, word 3)
   where
-    byte : (n : ℕ) → getD (bodyFrom lostWidth l i) n 0 ≡ getD l (i * lostWidth + (1 + n)) 0
-    byte n = getD-drop 1 (drop (i * lostWidth) l) n 0 ∙ getD-drop (i * lostWidth) l (1 + n) 0
+    byte : (n : ℕ)
+        → getD (bodyFrom lostWidth l i) (positionWidth + n) 0 ≡ getD l (i * lostWidth + (recordPosition + (positionWidth + n))) 0
+    byte n =
+        getD-drop recordPosition (drop (i * lostWidth) l) (positionWidth + n) 0
+        ∙ getD-drop (i * lostWidth) l (recordPosition + (positionWidth + n)) 0
 
-    word : (n : ℕ) → getD (bodyFrom lostWidth l i) (11 + n) 0 ≡ getD l (i * lostWidth + 12 + n) 0
-    word n = byte (11 + n) ∙ ap (λ k. getD l k 0) (omega arith)
+    word : (n : ℕ) → getD (bodyFrom lostWidth l i) (positionWidth + (3 + n)) 0 ≡ getD l (i * lostWidth + lostRounds + n) 0
+    word n = byte (3 + n) ∙ ap (λ k. getD l k 0) (omega arith)
 
 -- ── Whole records of one kind ──
 
@@ -113,15 +124,15 @@ module _ (kind size : ℕ) (bs : List (List ℕ)) (w : Whole size bs) where
       ∙ ap (λ l. read (drop 1 l)) (record-from i h)
       ∙ ahead (getD bs i []) (records kind (drop (suc i) bs)) (w (getD bs i []) (at-member bs i [] h)))))
 
-  pub positions-read : (rounds : ℕ) → 8 ≤ size
+  pub positions-read : (rounds : ℕ) → keptLength 6 ≤ size
       → positionsIn (wholeIn size rounds (records kind bs)) (records kind bs) ≡ map (positionOf 6) bs
   unfolding positionsIn
   positions-read rounds fits =
       read-each (positionOf 6) (λ body rest e. position-ahead body rest (omega arith))
       (positionAt (wholeIn size rounds (records kind bs)) (records kind bs)) (λ i. refl)
 
-pub losses-read : (kind : ℕ) (bs : List (List ℕ)) → Whole 15 bs → lossesIn (records kind bs) ≡ map (lossFrom 6) bs
+pub losses-read : (kind : ℕ) (bs : List (List ℕ)) → Whole (lossLength 6) bs → lossesIn (records kind bs) ≡ map (lossFrom 6) bs
 unfolding lossesIn
 losses-read kind bs w =
-    read-each kind 15 bs w (lossFrom 6) (λ body rest e. loss-ahead body rest (omega arith)) (lossAt (records kind bs))
+    read-each kind (lossLength 6) bs w (lossFrom 6) (λ body rest e. loss-ahead body rest (omega arith)) (lossAt (records kind bs))
     (loss-body (records kind bs))

@@ -11,7 +11,7 @@ use Rattle.fra.specs.declared.Task.{Task}
 use Rattle.outcome.specs.Certificate.{Loss}
 use Rattle.outcome.specs.declared.Standing.{Standing}
 use Rattle.outcome.specs.declared.Standing.the-variants.{Kept, Lost}
-use Rattle.listing.specs.Widths.{keptWidth, lostWidth}
+use Rattle.listing.specs.Widths.{positionWidth, keptWidth, lostWidth, recordPosition}
 use Rattle.listing.specs.Listing.{ofKept, ofLost, positionAt, roundsAt, positionsIn}
 use Rattle.listing.specs.declared.Listing.{Listing}
 
@@ -28,13 +28,13 @@ keptIn l = positionsIn (recordsOf Kept (length l)) l
 
 -- "kind 17, position, side, edge, case, rounds": where the attack stands in a record of a loss
 abbrev pub lostSide : ℕ
-lostSide = 9
+lostSide = recordPosition + positionWidth
 
 abbrev pub lostEdge : ℕ
-lostEdge = 10
+lostEdge = lostSide + 1
 
 abbrev pub lostCase : ℕ
-lostCase = 11
+lostCase = lostEdge + 1
 
 -- what record i of losses says
 unfoldable pub lossAt : List ℕ → ℕ → Loss

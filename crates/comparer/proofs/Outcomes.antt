@@ -35,6 +35,7 @@ use Rattle.table_laws.proofs.LayingOut.{laidOut-length}
 use Rattle.comparer_explore.specs.ExploreAnswers.{exploredIn, Explores}
 use Rattle.comparer_explore.specs.declared.Explored.the-variants.{Count, TooMany}
 use Rattle.comparer_rank_laws.specs.EntryRows.{rows}
+use Rattle.fra_laws.proofs.LegalPositions.{mostPositions}
 use Rattle.comparer_rank_laws.proofs.FewPositions.{few-states, few-positions}
 use Rattle.comparer_rank.specs.RankPasses.{reachedIn, Begins}
 use Rattle.comparer_laws.proofs.Arranged.{arranged, entries-length}
@@ -168,7 +169,7 @@ module _ {b : List ℕ} (index : Index b) where
   abbrev valid : Valid 6 t
   valid = index .indexable .valid
 
-  few : length (reached g t) ≤ 3411712
+  few : length (reached g t) ≤ mostPositions
   few = few-positions index g
 
   wide : length (entries g t) ≡ length (reached g t) * entryWidth
@@ -196,7 +197,7 @@ module _ {b : List ℕ} (index : Index b) where
   all-ranked {n} x counted e = record { counted = counted; rest = drop (n * entryWidth) x; begins = e }
 
   -- there is room for so many entries, and they are not many
-  pub ranked-room : {n : ℕ} {table : List ℕ} → Ranked b n table → (n ≤ 3411712) × (n * entryWidth ≤ length table)
+  pub ranked-room : {n : ℕ} {table : List ℕ} → Ranked b n table → (n ≤ mostPositions) × (n * entryWidth ≤ length table)
   ranked-room {n} {table} r =
       let counted = r .counted in
       let long : length table ≡ length (entries g t) + length (r .rest) =

@@ -10,17 +10,17 @@ use lib.ListN.{length, drop, length-append, length-drop}
 use lib.Seq.{sets, sets-eq, length-sets, length-take-le}
 use Rattle.fra.specs.Lists.{keep, count}
 use Rattle.fra.specs.Rules.{Rules}
-use Rattle.fra.specs.Position.{bytes}
 use Rattle.fra.specs.declared.Position.{Position}
 use Rattle.fra.specs.declared.Task.{Task}
 use Rattle.fra_laws.proofs.Lists.{keep-elim, count-elim}
 use Rattle.fra_laws.proofs.Lengths.{flatMap-length}
-use Rattle.outcome.specs.Bytes.{word, thenRest}
+use Rattle.outcome.specs.Bytes.{thenRest}
 use Rattle.outcome.specs.Check.{positionOf}
 use Rattle.outcome.specs.Verdicts.{widthOf}
 use Rattle.outcome.specs.Certificate.{Loss, keptRecord, lossRecord}
 use Rattle.outcome.specs.declared.Standing.{Standing}
 use Rattle.outcome.specs.declared.Standing.the-variants.{Kept, Lost}
+use Rattle.outcome_laws.proofs.Encoding.{position-length, loss-length}
 use Rattle.outcome_laws.proofs.WrittenLists.{loss-position}
 use Rattle.listing.specs.Widths.{entryWidth, keptWidth, lostWidth}
 use Rattle.listing.specs.Listing.{ofTable, positionAt, Fitting}
@@ -42,12 +42,12 @@ written-whole certificate buffer b = sets-eq certificate buffer 0 (omega arith) 
 -- ── The width of records ──
 
 pub kept-width : (kind : ℕ) (p : Position) → length (p .partners) ≡ 6 → length (keptRecord kind p) ≡ keptWidth
-unfolding keptRecord bytes
-kept-width kind p e = ap (λ (k : ℕ). suc (suc (suc k))) e
+unfolding keptRecord
+kept-width kind p e = ap suc (position-length 6 p e)
 
 pub loss-width : (kind : ℕ) (x : Loss) → length (x .position .partners) ≡ 6 → length (lossRecord kind x) ≡ lostWidth
-unfolding lossRecord bytes word
-loss-width kind x e = ap (λ (k : ℕ). suc (suc (suc k))) (length-append (x .position .partners) _ ∙ ap (λ (k : ℕ). k + 7) e)
+unfolding lossRecord
+loss-width kind x e = ap suc (loss-length 6 x e)
 
 module _ (n : ℕ) (table : List ℕ) (room : Fitting (ofTable n) table) where
   -- an entry's position has six partners

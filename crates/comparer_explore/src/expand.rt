@@ -10,6 +10,7 @@ use game_index::Transition;
 use game_index::layout::SIZE;
 use game_moves::rounds;
 use game_moves::rounds::Target;
+use table::HISTORY_BASE;
 use table::PARTNER_BASE;
 use table::STATE_BASE;
 ghost use Prim.Native.Nat.{_<_};
@@ -37,40 +38,51 @@ pub fn visit(table: &mut [u8], n: usize, key: u32) -> Explored
     }
 }
 
-// The key of the position after a left and a right edge have taken one number, digit by digit: the position is not made.
-fn key_after(p: Position, left: Target, right: Target) -> u32
-    ensures { λ r. ⌜ (r ≡ keyOf (movedTo p left right)) × (r < keyLimit) ⌝ }
+// The key of the position after a left and a right edge have taken one number, where the history then has this size, digit by
+// digit: the position is not made.
+fn key_after(p: Position, size: u8, left: Target, right: Target) -> u32
+    ensures { λ r. ⌜ (r ≡ keyOf (movedTo p size left right)) × (r < keyLimit) ⌝ }
 {
     let before = p.partners;
-    let mut key = (left.state as u32) * STATE_BASE + (right.state as u32);
+    let mut key = ((left.state as u32) % STATE_BASE) * STATE_BASE
+        + (right.state as u32) % STATE_BASE;
     let mut i: u8 = 0;
     while i < Model::REGISTERS {
         let x = rounds::rejoined(left.register, right.register, i + 1, before[i as usize]);
         key = key * PARTNER_BASE + (rounds::remaining(left.set, right.set, i + 1, x) as u32);
         i += 1;
     }
-    key
+    key * HISTORY_BASE + (size as u32)
 }
 
-// Inserts the key of the position that a left and a right edge lead to, if they can take one number.
+// Inserts the keys of the positions that a left and a right edge lead to, if they can take one number. Two locally fresh edges take
+// a new number, or one seen before if there is room for such; at the history's greatest size both lead to one position.
 fn visit_pair(
     table: &mut [u8],
     n: usize,
     p: Position,
+    room: bool,
     left: Transition,
     right: Transition,
 ) -> Explored
     requires { ⌜ Stored n (now table) ⌝ }
-    ensures { λ r. ⌜ Visited (PairKey p left right) n (now (table .entry)) r (now (table .exit)) ⌝ }
+    ensures { λ r. ⌜ Visited (PairKey room p left right) n (now (table .entry)) r (now (table .exit)) ⌝ }
 {
     let kind = left.kind;
     let other_kind = right.kind;
-    if rounds::joint(p, kind, other_kind) {
-        let target = left.target;
-        let other_target = right.target;
-        return visit(table, n, key_after(p, target, other_target));
+    if !rounds::joint(p, kind, other_kind) {
+        return Explored::Count(n);
     }
-    Explored::Count(n)
+    let target = left.target;
+    let other_target = right.target;
+    let size = rounds::size_after(kind, other_kind, p.history);
+    let Explored::Count(m) = visit(table, n, key_after(p, size, target, other_target)) else {
+        return Explored::TooMany;
+    };
+    if room & (size != p.history) & rounds::also_seen(kind, other_kind) {
+        return visit(table, m, key_after(p, p.history, target, other_target));
+    }
+    Explored::Count(m)
 }
 
 // Inserts the positions that a left edge leads to with right edges of a range.
@@ -78,20 +90,21 @@ fn visit_edges(
     table: &mut [u8],
     n: usize,
     p: Position,
+    room: bool,
     left: Transition,
     index: &[u8; SIZE],
     edges: Range,
 ) -> Explored
     requires { ⌜ Stored n (now table) ⌝ }
     requires { ⌜ Index (now index) ⌝ }
-    ensures { λ r. ⌜ Visited (RangeKey (now (index .entry)) p left edges) n (now (table .entry)) r (now (table .exit)) ⌝ }
+    ensures { λ r. ⌜ Visited (RangeKey (now (index .entry)) room p left edges) n (now (table .entry)) r (now (table .exit)) ⌝ }
 {
     let end = edges.end;
     let mut m = n;
     let mut k = edges.first;
     while k < end {
         let right = game_index::transition_at(index, Side::Right, k);
-        let Explored::Count(more) = visit_pair(table, m, p, left, right) else {
+        let Explored::Count(more) = visit_pair(table, m, p, room, left, right) else {
             return Explored::TooMany;
         };
         m = more;
@@ -108,6 +121,7 @@ pub fn visit_successors(table: &mut [u8], n: usize, index: &[u8; SIZE], p: Posit
     ensures { λ r. ⌜ Visited (SuccessorKey (rulesIn (now (index .entry))) (taskIn (now (index .entry))) p) n
         (now (table .entry)) r (now (table .exit)) ⌝ }
 {
+    let room = game_index::has_room(index, p);
     let edges = game_index::edges_of(index, Side::Left, p.left);
     let end = edges.end;
     let mut m = n;
@@ -116,7 +130,7 @@ pub fn visit_successors(table: &mut [u8], n: usize, index: &[u8; SIZE], p: Posit
         let e = game_index::edge_at(index, Side::Left, k);
         let left = game_index::transition_at(index, Side::Left, k);
         let others = game_index::tagged(index, Side::Right, p.right, e.tag);
-        let Explored::Count(more) = visit_edges(table, m, p, left, index, others) else {
+        let Explored::Count(more) = visit_edges(table, m, p, room, left, index, others) else {
             return Explored::TooMany;
         };
         m = more;

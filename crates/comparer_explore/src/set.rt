@@ -60,13 +60,14 @@ fn walk(table: &[u8], key: u32, head: u32) -> bool
     false
 }
 
-// Writes entry n, before the chain of bucket b.
+// Writes entry n, before the chain of bucket b. Its head is read after the key is written: read before, it would share its four
+// bytes with the walk's look at it, which then took a byte at a time.
 fn put_entry(table: &mut [u8], n: usize, key: u32, b: usize)
     requires { ⌜ (n < capacity (now table)) × (n ≤ keyLimit) × (b < capacity (now table)) ⌝ }
     ensures { λ _. ⌜ now (table .exit) ≡ withEntry (now (table .entry)) n key b ⌝ }
 {
-    let head = word_at(table, b * ENTRY + HEAD);
     put_word(table, n * ENTRY, key);
+    let head = word_at(table, b * ENTRY + HEAD);
     put_word(table, n * ENTRY + LINK, head);
     put_word(table, b * ENTRY + HEAD, (n + 1) as u32);
 }

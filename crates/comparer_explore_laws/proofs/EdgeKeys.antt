@@ -3,10 +3,12 @@ use Prim.Native.Nat.{ℕ, _-_}
 use mathlib.Core.Path.{_≡_, refl, sym, _∙_, ap}
 use mathlib.Core.Bool.{true}
 use mathlib.Core.List.{List}
+use lib.ListN.{length}
 use Rattle.fra.specs.Model.{edgeOf}
 use Rattle.fra.specs.Position.{legal}
 use Rattle.fra.specs.declared.Position.{Position}
 use Rattle.fra.specs.declared.Side.the-variants.{Left, Right}
+use Rattle.fra_laws.proofs.Legal.{legal-facts}
 use Rattle.fra_laws.proofs.Pairs.{Pair}
 use Rattle.fra_laws.proofs.Successors.{successors-by-pairs}
 use Rattle.game_moves.proofs.AttacksBySide.{moved-to}
@@ -25,25 +27,29 @@ module _ {b : List ℕ} (index : Index b) (p : Position) (legal-p : legal 6 (tas
   abbrev edges : Range
   edges = stateRange (modelIn b Left) (p .left)
 
+  six : length (p .partners) ≡ 6
+  six = legal-facts 6 (taskIn b) p legal-p .long
+
   pub edges-of-successors : (k : ℕ) → SuccessorKey (rulesIn b) (taskIn b) p k → Among (edges .first) (edges .end) (EdgeKey b p) k
   unfolding taskIn
   edges-of-successors k (q, m, d) =
-      let (i, j, x, f) = successors-by-pairs (index .indexable .valid) (rulesIn b) p legal-p Left (left-attacks b) q .0 m in
+      let (i, j, size, x, f) = successors-by-pairs (index .indexable .valid) (rulesIn b) p legal-p Left (left-attacks b) q .0 m in
       let (first, end) =
       state-inside (index-model index Left) (sized-in b Left) (p .left) i (record { exists = x .exists; starts = x .starts }) in
       let (other-first, other-end) =
       tag-inside (index-model index Right) (sized-in b Right) (p .right) (edgeOf (modelIn b Left) i .tag) j
       (record { exists = x .other-exists; starts = x .other-starts; tagged = x .tag }) in
-      let after = moved-to (taskIn b) p (edgeOf (modelIn b Left) i) (edgeOf (modelIn b Right) j) in
-      (i, first, end, (j, other-first, other-end, (x .joint, d ∙ ap keyOf (f ∙ sym after))))
+      let after = moved-to (taskIn b) p size (edgeOf (modelIn b Left) i) (edgeOf (modelIn b Right) j) in
+      let sized = rw six at (x .sized) in
+      (i, first, end, (j, other-first, other-end, (x .joint, size, sized, d ∙ ap keyOf (f ∙ sym after))))
 
   pub successors-of-edges : (k : ℕ) → Among (edges .first) (edges .end) (EdgeKey b p) k → SuccessorKey (rulesIn b) (taskIn b) p k
   unfolding taskIn
-  successors-of-edges k (i, first, end, (j, other-first, other-end, (joint, d))) =
+  successors-of-edges k (i, first, end, (j, other-first, other-end, (joint, size, sized, d))) =
       let own = state-range-edge (index-model index Left) (sized-in b Left) (p .left) i first end in
       let tag = edgeOf (modelIn b Left) i .tag in
       let reply = tag-range-edge (index-model index Right) (sized-in b Right) (p .right) tag j other-first other-end in
-      let pair : Pair (taskIn b) p Left i j =
+      let pair : Pair (taskIn b) p Left i j size =
       record {
         exists = own .exists;
         other-exists = reply .exists;
@@ -51,9 +57,10 @@ module _ {b : List ℕ} (index : Index b) (p : Position) (legal-p : legal 6 (tas
         other-starts = reply .starts;
         tag = reply .tagged;
         joint = joint;
+        sized = rw six sized;
       } in
-      let after = moved-to (taskIn b) p (edgeOf (modelIn b Left) i) (edgeOf (modelIn b Right) j) in (
+      let after = moved-to (taskIn b) p size (edgeOf (modelIn b Left) i) (edgeOf (modelIn b Right) j) in (
         _,
-        successors-by-pairs (index .indexable .valid) (rulesIn b) p legal-p Left (left-attacks b) _ .1 (i, j, pair, refl),
+        successors-by-pairs (index .indexable .valid) (rulesIn b) p legal-p Left (left-attacks b) _ .1 (i, j, size, pair, refl),
         d ∙ ap keyOf after,
       )

@@ -4,6 +4,7 @@ pub mod Growth
 pub mod Stored
 pub mod RoundKeys
 pub mod EdgeKeys
+pub mod PairKeys
 pub mod Permuted
 pub mod Explored
 pub mod Exploring

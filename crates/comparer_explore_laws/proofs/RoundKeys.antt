@@ -1,5 +1,5 @@
 -- The key of the position after a round, digit by digit, and that it is below the limit of keys. Assumes nothing.
-use Prim.Native.Nat.{ℕ, zero, suc, _+_, _*_, _≤_, _<_}
+use Prim.Native.Nat.{ℕ, zero, suc, _+_, _*_, _%_, _≤_, _<_}
 use mathlib.Core.Path.{_≡_, sym, _∙_}
 use mathlib.Core.Bool.{Bool, true, false, cond, _&&_}
 use mathlib.Core.List.{List, [], _∷_}
@@ -50,11 +50,15 @@ abbrev pub partnerAfter : Target → Target → List ℕ → ℕ → ℕ
 partnerAfter l r before i =
     remaining (l .set) (r .set) (i + 1) (rejoined (l .register) (r .register) (i + 1) (getD before i 0))
 
--- the digits from register i on continue a number to the key
+-- the states after a round in one number
+abbrev statesAfter : Target → Target → ℕ
+statesAfter l r = l .state % stateBase * stateBase + r .state % stateBase
+
+-- the digits from register i on continue a number to what stands before the key's last digit
 abbrev pub Continues : Target → Target → List ℕ → ℕ → ℕ → Type 0
 Continues l r before x i =
     value partnerBase x (drop i (partnersAfter l r before))
-    ≡ value partnerBase (l .state * stateBase + r .state) (partnersAfter l r before)
+    ≡ value partnerBase (statesAfter l r) (partnersAfter l r before)
 
 module _ (l r : Target) (before : List ℕ) (x i : ℕ) (c : Continues l r before x i) where
   abbrev after : List ℕ
@@ -72,19 +76,21 @@ module _ (l r : Target) (before : List ℕ) (x i : ℕ) (c : Continues l r befor
       rw (← partner) (sym (value-digit partnerBase x after i (omega (arith, long))) ∙ c)
 
   -- no digit is left
-  pub continues-end : length before ≤ i → x ≡ value partnerBase (l .state * stateBase + r .state) after
+  pub continues-end : length before ≤ i → x ≡ value partnerBase (statesAfter l r) after
   continues-end h = sym (value-end partnerBase x after i (omega (arith, long))) ∙ c
 
--- where the numbers are bytes, the number is small
-pub continues-small : (p : Position) (l r : Target) (x i : ℕ) → length (p .partners) ≡ 6 → l .state < 256 → r .state < 256
-    → r .register < 256
-    → Bytes (p .partners)
-    → Continues l r (p .partners) x i
-    → x < keyLimit
-unfolding movedTo keyOf
-continues-small p l r x i long left right register bytes c =
-    let whole =
-    key-of-bytes (movedTo p l r) left right
-    (matched-length (l .set) (r .set) (l .register) (r .register) 1 (p .partners) ∙ long)
-    (matched-bytes (l .set) (r .set) (l .register) (r .register) 1 (p .partners) register bytes) in
-    key-part-small (keyOf (movedTo p l r)) x (drop i (partnersAfter l r (p .partners))) whole c
+-- where the numbers are bytes, the key is small, and so is each number that is continued to it
+module _ (p : Position) (size : ℕ) (l r : Target) (six : length (p .partners) ≡ 6) (register : r .register < 256)
+    (partners : Bytes (p .partners)) (byte : size < 256)
+  where
+    pub after-small : keyOf (movedTo p size l r) < keyLimit
+    unfolding movedTo
+    after-small =
+        key-of-bytes (movedTo p size l r)
+        (matched-length (l .set) (r .set) (l .register) (r .register) 1 (p .partners) ∙ six)
+        (matched-bytes (l .set) (r .set) (l .register) (r .register) 1 (p .partners) register partners) byte
+
+    pub continues-small : (x i : ℕ) → Continues l r (p .partners) x i → x < keyLimit
+    unfolding movedTo
+    continues-small x i c =
+        key-part-small (movedTo p size l r) x (drop i (partnersAfter l r (p .partners))) after-small c

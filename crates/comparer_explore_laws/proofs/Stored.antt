@@ -16,6 +16,7 @@ use Rattle.fra_laws.proofs.Lengths.{count-length, unique-length}
 use Rattle.outcome.specs.Bytes.{wordAt, cleared}
 use Rattle.outcome.specs.Compare.{capacity}
 use Rattle.listing.specs.Widths.{wordWidth, entryWidth}
+use Rattle.listing.specs.Words.{putWord}
 use Rattle.listing.proofs.WordLaws.{read-word, read-other-word}
 use Rattle.table_laws.specs.Keys.{keyLimit}
 use Rattle.table_laws.specs.Table.{keyAt, keys}
@@ -129,6 +130,11 @@ Beside x y = (x + wordWidth ≤ y) ⊎ (y + wordWidth ≤ x)
 
 beside : (x y : ℕ) → (x < y → x + wordWidth ≤ y) → (y ≤ x → y + wordWidth ≤ x) → Beside x y
 beside x y p q = elim (decLt x y) [ yes h ↦ inl (p h) | no h ↦ inr (q (omega arith)) ]
+
+-- a key that is written leaves the heads
+pub head-kept : (table : List ℕ) (n k b : ℕ) → headAt (putWord table (n * entryWidth) k) b ≡ headAt table b
+head-kept table n k b =
+    read-other-word table (n * entryWidth) k (headPlace b) (beside _ _ (λ a. omega arith) (λ a. omega arith))
 
 module _ (table : List ℕ) (n k b : ℕ) where
   with-other : (x : ℕ) → Beside x (n * entryWidth) → Beside x (linkPlace n) → Beside x (headPlace b)

@@ -18,7 +18,7 @@ use Rattle.fra_laws.proofs.FixedWidth.{at-member, records-length}
 use Rattle.outcome.specs.Bytes.{allOnes}
 use Rattle.outcome.specs.Certificate.{roundsOrNever, entry, entries}
 use Rattle.listing.specs.Widths.{entryWidth}
-use Rattle.table_laws.specs.Keys.{stateBase, partnerBase, keyOf, positionFrom, Small}
+use Rattle.table_laws.specs.Keys.{stateBase, partnerBase, historyBase, keyOf, positionFrom, Small}
 use Rattle.table_laws.specs.Sorted.{sorted, Ascending, Permuted}
 use Rattle.table_laws.specs.Table.{keys, withKeys, row, laidOut}
 use Rattle.table_laws.proofs.Keys.{key-bound, position-of-key, key-rises, legal-small}
@@ -69,7 +69,7 @@ module _ {t : Task} (valid : Valid 6 t) (left : t .left .«state_count» ≤ sta
   key-small i b =
       let (p, m, e) = Memᴰ·of-map keyOf (reached g t) (at-member (map keyOf (reached g t)) i 0 b) in
       let (s, n) = packed p m in
-      let h : keyOf p < stateBase * stateBase * partnerBase ^ 6 = rw n at (key-bound p s) in
+      let h : keyOf p < stateBase * stateBase * partnerBase ^ 6 * historyBase = rw n at (key-bound p s) in
       omega arith
 
   keys-replaced : (table : List ℕ) → length (reached g t) * entryWidth ≤ length table

@@ -6,7 +6,7 @@ use mathlib.Core.Logic.{_⊎_, inl, inr, ⊎-elim}
 use mathlib.Core.Bool.{Bool, true, false, cond}
 use mathlib.Core.List.{List, [], _∷_, _++_, map, flatMap, append-assoc, append-nil, Memᴰ·map}
 use native.Mathlib.Omega.{arith}
-use lib.ListN.{length, getD, set, take, drop, length-append, length-map, drop-of-length-le, List·getD-append}
+use lib.ListN.{length, getD, set, drop, length-append, length-map, drop-of-length-le, List·getD-append}
 use lib.Seq.{sets, sets-eq, take-at, drop-cons, drop-drop, getD-append-add, ext-getD, set-getD}
 use Rattle.fra.specs.Lists.{_∈_}
 use Rattle.fra.specs.Position.{bytes, unmatched}
@@ -25,7 +25,7 @@ use Rattle.listing.specs.Words.{putWord}
 use Rattle.listing.specs.Listing.{ofTable, positionAt, roundsAt, positionsIn}
 use Rattle.listing.specs.declared.Listing.{Listing}
 use Rattle.listing.proofs.WordLaws.{word-from, word-drop}
-use Rattle.listing.proofs.PositionNumbers.{bytes-length, positions-length, positions-at}
+use Rattle.listing.proofs.PositionNumbers.{bytes-length, position-read, positions-length, positions-at}
 use Rattle.table_laws.specs.Table.{row}
 use Rattle.table_laws.proofs.LayingOut.{row-length}
 use Rattle.comparer_rank_laws.specs.EntryRows.{rows}
@@ -41,11 +41,8 @@ reached-six g {t} valid p m = legal-facts 6 t p (reached-legal valid g p m) .lon
 
 module _ (p : Position) (n : ℕ) (six : length (p .partners) ≡ 6) (rest : List ℕ) where
   row-position : positionOf 6 (row p n ++ rest) ≡ p
-  unfolding positionOf row bytes
-  row-position =
-      let e : take 6 ((p .partners ++ word n) ++ rest) ≡ p .partners =
-      rw append-assoc (take-at (p .partners) (word n ++ rest) 6 six) in
-      ap (λ (l : List ℕ). record { left = p .left; right = p .right; partners = l }) e
+  unfolding row
+  row-position = rw append-assoc (position-read p (word n ++ rest) six)
 
   row-rounds : n < 2 ^ 32 → wordAt (row p n ++ rest) entryRounds ≡ n
   unfolding row word

@@ -7,7 +7,7 @@ use Rattle.fra.specs.Rules.{Rules, modelOf}
 use Rattle.fra.specs.Reach.{reached}
 use Rattle.fra.specs.declared.Side.{Side}
 use Rattle.fra.specs.declared.Side.the-variants.{Left, Right}
-use Rattle.fra_laws.proofs.LegalPositions.{most-positions}
+use Rattle.fra_laws.proofs.LegalPositions.{mostPositions, most-positions-all}
 use Rattle.fra_laws.proofs.Reached.{reached-unique, reached-legal}
 use Rattle.game_index.specs.Layout.{statePlaces}
 use Rattle.game_index.specs.Reading.{taskIn}
@@ -18,8 +18,8 @@ module _ {b : List ℕ} (index : Index b) where
   pub few-states : (s : Side) → modelOf (taskIn b) s .«state_count» ≤ statePlaces
   few-states s = rw (model-in b s) (omega (arith, index-model index s .valid .state-places, sized-in b s .states))
 
-  pub few-positions : (g : Rules) → length (reached g (taskIn b)) ≤ 3411712
+  pub few-positions : (g : Rules) → length (reached g (taskIn b)) ≤ mostPositions
   few-positions g =
       let valid = index .indexable .valid in
-      most-positions valid (few-states Left) (few-states Right) (reached g (taskIn b)) (reached-unique valid g)
+      most-positions-all valid (few-states Left) (few-states Right) (reached g (taskIn b)) (reached-unique valid g)
       (reached-legal valid g)

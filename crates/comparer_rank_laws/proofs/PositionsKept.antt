@@ -9,12 +9,12 @@ use lib.ListN.{length, getD, take, drop, length-take, length-drop}
 use lib.Seq.{length-sets, getD-take, getD-drop, ext-getD}
 use Rattle.fra.specs.Lists.{count}
 use Rattle.outcome.specs.Check.{positionOf}
-use Rattle.listing.specs.Widths.{positionWidth, entryWidth, entryRounds}
+use Rattle.listing.specs.Widths.{positionWidth, historyPlace, entryWidth, entryRounds}
 use Rattle.listing.specs.Words.{putWord}
 use Rattle.listing.specs.Listing.{ofTable, positionsIn}
 use Rattle.listing.proofs.WordLaws.{put-other}
 
--- bytes that agree on a position's eight have the same position
+-- bytes that agree on a position's have the same position
 module _ (l m : List ℕ) (size : length l ≡ length m) (same : (k : ℕ) → k < positionWidth → getD l k 0 ≡ getD m k 0) where
   partners-same : take 6 (drop 2 l) ≡ take 6 (drop 2 m)
   partners-same =
@@ -28,7 +28,14 @@ module _ (l m : List ℕ) (size : length l ≡ length m) (same : (k : ℕ) → k
 
   position-same : positionOf 6 l ≡ positionOf 6 m
   unfolding positionOf
-  position-same = λ x. record { left = same 0 (omega arith) x; right = same 1 (omega arith) x; partners = partners-same x }
+  position-same =
+      λ x.
+      record {
+        left = same 0 (omega arith) x;
+        right = same 1 (omega arith) x;
+        partners = partners-same x;
+        history = same historyPlace (omega arith) x;
+      }
 
 module _ (t : List ℕ) (i w : ℕ) where
   abbrev u : List ℕ

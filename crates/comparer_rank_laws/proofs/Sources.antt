@@ -117,7 +117,7 @@ module _ {t : Task} (valid : Valid 6 t) (g : Rules) (attacked : g .attacks Left 
       → hasPair (sources t lost) (p .left) (p .right) ≡ true
   unfolding moved
   sources-lead lost p q l m h =
-      let (i, j, x, e) = successors-by-pairs valid g p l Left attacked q .0 m in
+      let (i, j, size, x, e) = successors-by-pairs valid g p l Left attacked q .0 m in
       rw (x .starts, x .other-starts) at
       (sources-have t lost i j (x .exists) (x .other-exists) (and-intro _ _ (eq-eqb _ _ (sym (x .tag))) (rw e at h)))
 

@@ -7,7 +7,7 @@ use Rattle.fra.specs.declared.Position.{Position}
 use Rattle.listing.specs.Widths.{entryWidth}
 use Rattle.table_laws.specs.Table.{row}
 
--- "12 bytes an entry: position, then rounds"
+-- an entry: "position, then rounds"
 unfoldable pub rows : (Position → ℕ) → List Position → List ℕ
 rows f l = flatMap (λ p. row p (f p)) l
 

@@ -16,11 +16,13 @@ turnedPartners partners = map (leftPartner 1 partners) (count 1 (length partners
 
 -- a position seen from the other side
 unfoldable pub turned : Position → Position
-turned p = record { left = p .right; right = p .left; partners = turnedPartners (p .partners) }
+turned p =
+    record { left = p .right; right = p .left; partners = turnedPartners (p .partners); history = p .history }
 
 -- "exchanging sides with the matching reversed": the models change places, and the start is seen from the other side
 unfoldable pub exchanged : Task → Task
-exchanged t = record { left = t .right; right = t .left; start = turned (t .start) }
+exchanged t =
+    record { left = t .right; right = t .left; start = turned (t .start); «history_stated» = t .«history_stated» }
 
 -- the same attack, its side named from the other side
 abbrev pub mirrored : Attack → Attack

@@ -9,7 +9,7 @@ use Rattle.fra.specs.Lists.{_∈_, any, all, keep, count}
 use Rattle.fra.specs.Registers.{has}
 use Rattle.fra.specs.Model.{setOf, markOf, edgeOf, registerOf, isKnown, isLocallyFresh, isFresh}
 use Rattle.fra.specs.Rules.{Rules, other, leftOf, rightOf, modelOf}
-use Rattle.fra.specs.Position.{stateOf, filled, partner, legal}
+use Rattle.fra.specs.Position.{stateOf, filled, partner, mostSeen, hasRoom, legal}
 use Rattle.fra.specs.declared.EdgeKind.{EdgeKind}
 use Rattle.fra.specs.declared.EdgeKind.the-variants.{Known, LocallyFresh, GloballyFresh}
 use Rattle.fra.specs.declared.Edge.{Edge}
@@ -24,7 +24,8 @@ use Rattle.fra.specs.declared.Attack.{Attack}
 -- ── Attacks (challenges) ──
 
 -- which id cases an edge of side s has: a known edge has case 0; a locally fresh one has a case for each "register j of the
--- other side, in its set and without partner", and those of a number held by neither; "Globally fresh edge: case 8 only"
+-- other side, in its set and without partner", and those of a number held by neither; "Globally fresh edge: case 8 only". 02,
+-- ticket 2: "Case 7 exists only if that size exceeds the numbers that the two readers hold together"
 unfoldable pub hasCase : Task → Position → Side → EdgeKind → IdCase → Bool
 hasCase t p s (Known i) Held = true
 hasCase t p s (Known i) (Private j) = false
@@ -32,7 +33,7 @@ hasCase t p s (Known i) Seen = false
 hasCase t p s (Known i) New = false
 hasCase t p s (LocallyFresh i) Held = false
 hasCase t p s (LocallyFresh i) (Private j) = has (filled t p (other s)) j && eqb (partner p (other s) j) 0
-hasCase t p s (LocallyFresh i) Seen = true
+hasCase t p s (LocallyFresh i) Seen = hasRoom t p
 hasCase t p s (LocallyFresh i) New = true
 hasCase t p s (GloballyFresh i) Held = false
 hasCase t p s (GloballyFresh i) (Private j) = false
@@ -110,21 +111,30 @@ unfoldable pub matched : ℕ → ℕ → ℕ → ℕ → ℕ → List ℕ → Li
 matched left right a b i [] = []
 matched left right a b i (x ∷ xs) = remaining left right i (rejoined a b i x) ∷ matched left right a b (suc i) xs
 
--- the position after a left and a right edge have taken one number
-unfoldable pub moved : Task → Position → Edge → Edge → Position
-moved t p l r =
+-- 02, ticket 2: "Case 8 raises it by one, up to 13": the history size after a round in this id case, for r registers
+abbrev pub sizeAfter : ℕ → IdCase → ℕ → ℕ
+sizeAfter r Held size = size
+sizeAfter r (Private j) size = size
+sizeAfter r Seen size = size
+sizeAfter r New size = cond (ltb size (mostSeen r)) (suc size) size
+
+-- the position after a left and a right edge have taken one number, where the history then has this size
+unfoldable pub moved : Task → Position → ℕ → Edge → Edge → Position
+moved t p size l r =
     record {
       left = l .to;
       right = r .to;
       partners =
           matched (setOf (t .left) (l .to)) (setOf (t .right) (r .to)) (registerOf (l .kind)) (registerOf (r .kind)) 1
           (p .partners);
+      history = size;
     }
 
 -- the position that an attack and its reply, edge number k of the other side, lead to
 unfoldable pub after : Task → Position → Attack → ℕ → Position
 after t p a k =
-    moved t p (leftOf (a .side) (attackEdge t a) (replyEdge t a k)) (rightOf (a .side) (attackEdge t a) (replyEdge t a k))
+    moved t p (sizeAfter (length (p .partners)) (a .case) (p .history))
+    (leftOf (a .side) (attackEdge t a) (replyEdge t a k)) (rightOf (a .side) (attackEdge t a) (replyEdge t a k))
 
 -- ── Lost ──
 

@@ -7,7 +7,7 @@ use mathlib.Core.Option.{Option}
 use lib.ListN.{length}
 use lib.Dec.{eqb}
 use Rattle.fra.specs.Lists.{_∈_, least}
-use Rattle.fra.specs.Position.{before}
+use Rattle.fra.specs.Position.{mostSeen, before}
 use Rattle.fra.specs.Rules.{Rules}
 use Rattle.fra.specs.Game.{attacks, replies, after, lostWithin}
 use Rattle.fra.specs.declared.Position.{Position}
@@ -43,10 +43,11 @@ closed step zero l = l
 closed step (suc n) l =
     let m = grown step l in elim (eqb (length m) (length l)) [ true ↦ l | false ↦ closed step n m ]
 
--- no task has more legal positions: a pair of states, and r partners of 0 to r
+-- no task has more legal positions: a history size, a pair of states, and r partners of 0 to r
 unfoldable pub enough : Task → ℕ
 enough t =
-    t .left .«state_count» * t .right .«state_count» * suc (length (t .start .partners)) ^ length (t .start .partners)
+    suc (mostSeen (length (t .start .partners)))
+    * (t .left .«state_count» * t .right .«state_count» * suc (length (t .start .partners)) ^ length (t .start .partners))
 
 -- the positions reached, "rising by position bytes"
 unfoldable pub reached : Rules → Task → List Position

@@ -1,12 +1,12 @@
 -- What holds of every task that the reader does not refuse, for r registers (01, "A reader model").
 use Prim.Native.Nat.{ℕ, suc, _≤_, _<_}
 use mathlib.Core.Path.{_≡_}
-use mathlib.Core.Bool.{Bool, true}
+use mathlib.Core.Bool.{Bool, true, false}
 use lib.ListN.{length}
 use Rattle.fra.specs.Registers.{has, with}
 use Rattle.fra.specs.Lists.{below}
 use Rattle.fra.specs.Model.{setOf, markOf, edgeOf, edgeBytes, registerOf}
-use Rattle.fra.specs.Position.{legal}
+use Rattle.fra.specs.Position.{mostSeen, legal}
 use Rattle.fra.specs.declared.EdgeKind.{EdgeKind}
 use Rattle.fra.specs.declared.EdgeKind.the-variants.{Known, LocallyFresh, GloballyFresh}
 use Rattle.fra.specs.declared.Edge.{Edge}
@@ -50,3 +50,5 @@ pub record Valid (r : ℕ) (t : Task) : Type 0 where
   pub start-left : t .start .left ≡ t .left .start
   pub start-right : t .start .right ≡ t .right .start
   pub start-legal : legal r t (t .start) ≡ true
+  -- 02, ticket 2: "without the record it is 13"
+  pub unstated : t .«history_stated» ≡ false → t .start .history ≡ mostSeen r

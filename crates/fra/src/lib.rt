@@ -3,7 +3,8 @@ ghost use mathlib.Core.Path.{_≡_};
 ghost use Rattle.fra.specs.Registers.{has};
 ghost use Rattle.fra.specs.Model.{registerOf, kindNumber, kindOf, isKnown, isLocallyFresh, isFresh};
 ghost use Rattle.fra.specs.Rules.{other, isLeft, rulesOf, gameNumber, gameOf};
-ghost use Rattle.fra.specs.Position.{unmatched, stateOf, rightPartner, leftPartner, partner};
+ghost use Rattle.fra.specs.Position.{unmatched, stateOf, rightPartner, leftPartner, partner, isUnshared, heldIn};
+ghost use Rattle.fra.specs.Game.{sizeAfter};
 
 // What an edge takes, with the register that it reads or writes.
 pub enum EdgeKind {
@@ -137,22 +138,26 @@ impl Model {
     };
 }
 
-// A pair of symbolic configurations: two states, and for each left register the right register that holds the same
-// number, 0 for none.
+// A pair of symbolic configurations: two states, for each left register the right register that holds the same number, 0 for
+// none, and the history's size.
 pub struct Position {
     pub left: u8,
     pub right: u8,
     pub partners: [u8; 6],
+    pub history: u8,
 }
 
 impl Position {
-    // The bytes of a position: its two states and its partners.
-    pub const WIDTH: usize = (Model::REGISTERS as usize) + 2;
+    // The bytes of a position: its two states, its partners and the history's size.
+    pub const WIDTH: usize = (Model::REGISTERS as usize) + 3;
 
     // The empty matching: no register has a partner.
     pub const EMPTY: [u8; 6] = [0; 6];
 
-    // The position of two states under the empty matching.
+    // The greatest size of a history, which stands for any larger one: one number more than two readers can hold.
+    pub const MOST_SEEN: u8 = 2 * Model::REGISTERS + 1;
+
+    // The position of two states under the empty matching, with a history of the greatest size.
     pub fn unmatched(left: u8, right: u8) -> Self
         ensures { λ r. ⌜ r ≡ unmatched 6 left right ⌝ }
     {
@@ -160,6 +165,7 @@ impl Position {
             left,
             right,
             partners: Position::EMPTY,
+            history: Position::MOST_SEEN,
         }
     }
 
@@ -182,6 +188,21 @@ impl Position {
             Side::Left => right_partner(partners, i),
             Side::Right => left_partner(partners, i),
         }
+    }
+
+    // How many numbers the two readers hold together, where their states have these register sets: a shared one counts once.
+    pub fn held(self, left: u8, right: u8) -> u8
+        ensures { λ r. ⌜ r ≡ heldIn left right (self .partners) ⌝ }
+    {
+        let partners = self.partners;
+        let mut held: u8 = 0;
+        let mut counted: u8 = 0;
+        while counted < Model::REGISTERS {
+            let register = counted + 1;
+            held += (has(left, register) as u8) + (unshared(partners, right, register) as u8);
+            counted = register;
+        }
+        held
     }
 }
 
@@ -212,11 +233,19 @@ fn left_partner(partners: [u8; 6], j: u8) -> u8
     0
 }
 
-// Two models, and the position that a comparison starts from.
+// Right register j is in the set and no left register holds its number.
+fn unshared(partners: [u8; 6], right: u8, j: u8) -> bool
+    ensures { λ r. ⌜ r ≡ isUnshared right partners j ⌝ }
+{
+    has(right, j) & (left_partner(partners, j) == 0)
+}
+
+// Two models, and the position that a comparison starts from. Its history's size may be stated in the task's file.
 pub struct Task {
     pub left: Model,
     pub right: Model,
     pub start: Position,
+    pub history_stated: bool,
 }
 
 pub enum Side {
@@ -303,6 +332,26 @@ pub enum IdCase {
     Seen,
     // case 8: nowhere
     New,
+}
+
+impl IdCase {
+    // The size of the history after a round with such a number, where it was this before.
+    pub fn history_after(self, size: u8) -> u8
+        ensures { λ r. ⌜ r ≡ sizeAfter 6 self size ⌝ }
+    {
+        match self {
+            IdCase::Held => size,
+            IdCase::Private(_) => size,
+            IdCase::Seen => size,
+            IdCase::New => {
+                if size < Position::MOST_SEEN {
+                    size + 1
+                } else {
+                    size
+                }
+            }
+        }
+    }
 }
 
 // A challenge: one side takes one of its edges.

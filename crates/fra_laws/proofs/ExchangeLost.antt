@@ -17,6 +17,7 @@ use Rattle.fra.specs.declared.Task.{Task}
 use Rattle.fra_laws.proofs.Tests.{same-test}
 use Rattle.fra_laws.proofs.Lists.{flatMap-elim}
 use Rattle.fra_laws.proofs.Closure.{closure-keeps}
+use Rattle.fra_laws.proofs.Legal.{joined, legal-facts}
 use Rattle.fra_laws.proofs.LegalRounds.{after-legal, successors-legal}
 use Rattle.fra_laws.proofs.Reached.{successors-intro}
 use Rattle.fra_laws.proofs.Lost.{Winnable, lost-at-once, lost-step}
@@ -60,11 +61,11 @@ module _ {r : ℕ} {t : Task} (valid : Valid r t) (g : Rules) (p : Position) (le
       same-test _ _
       (λ h.
       subst (λ (b : Bool). b ≡ true) twice
-      (still-lost (exchanged-valid valid) (mirroredRules g) n (turned p) (turned-legal r t p legal-p) h))
+      (still-lost (exchanged-valid valid) (mirroredRules g) n (turned p) (turned-legal valid p legal-p) h))
       (still-lost valid g n p legal-p)
     where
       twice : lostWithin (mirroredRules (mirroredRules g)) (exchanged (exchanged t)) n (turned (turned p)) ≡ lostWithin g t n p
-      twice = λ i. lostWithin (mirrored-twice g i) (exchanged-twice valid i) n (turned-twice valid p legal-p i)
+      twice = λ i. lostWithin (mirrored-twice g i) (exchanged-twice valid i) n (turned-twice valid p (joined (legal-facts r t p legal-p)) i)
 
   pub never-lost-exchanged : NeverLost (mirroredRules g) (exchanged t) (turned p) ↔ NeverLost g t p
   never-lost-exchanged = (λ never n. sym (lost-exchanged n) ∙ never n, λ never n. lost-exchanged n ∙ never n)
@@ -100,7 +101,7 @@ pub reached-exchanged : {r : ℕ} {t : Task} → Valid r t → (g : Rules) (p : 
 reached-exchanged {r} {t} valid g p h = (
   λ c.
       subst (λ (x : Rules × Task × Position). Reached (x .0) (x .1) (x .2))
-      (λ i. (mirrored-twice g i, exchanged-twice valid i, turned-twice valid p h i))
+      (λ i. (mirrored-twice g i, exchanged-twice valid i, turned-twice valid p (joined (legal-facts r t p h)) i))
       (reached-turned (exchanged-valid valid) (mirroredRules g) (turned p) c),
   reached-turned valid g p,
 )

@@ -4,13 +4,14 @@ use Prim.Native.Nat.{ℕ, zero, suc, _≤_}
 use mathlib.Core.Path.{_≡_, refl, _∙_, ap}
 use mathlib.Core.Bool.{true, _&&_}
 use native.Mathlib.Omega.{arith}
+use lib.ListN.{length}
 use lib.Dec.{eqb}
 use Rattle.fra.specs.Lists.{_∈_, count}
 use Rattle.fra.specs.Registers.{has}
 use Rattle.fra.specs.Model.{setOf, registerOf}
 use Rattle.fra.specs.Rules.{Rules, other, leftOf, rightOf, modelOf}
 use Rattle.fra.specs.Position.{stateOf, filled, partner, legal}
-use Rattle.fra.specs.Game.{hasCase, attackEdge, isAttack, attacks, replyEdge, isReply, replies, moved, after}
+use Rattle.fra.specs.Game.{hasCase, attackEdge, isAttack, attacks, replyEdge, isReply, replies, sizeAfter, moved, after}
 use Rattle.fra.specs.Valid.{ValidEdge, Valid}
 use Rattle.fra.specs.Exchange.{turned, exchanged, mirrored, mirroredRules}
 use Rattle.fra.specs.declared.EdgeKind.{EdgeKind}
@@ -25,10 +26,10 @@ use Rattle.fra.specs.declared.IdCase.the-variants.{Held, Private, Seen, New}
 use Rattle.fra.specs.declared.Attack.{Attack}
 use Rattle.fra_laws.proofs.KeptLists.{keep-same}
 use Rattle.fra_laws.proofs.AttackMembers.{attacks-intro, attacks-elim}
-use Rattle.fra_laws.proofs.Legal.{valid-side, legal-facts, legal-intro, attack-edge-exists, reply-edge-exists, moved-legal}
+use Rattle.fra_laws.proofs.Legal.{valid-side, joined, legal-facts, attack-edge-exists, reply-edge-exists, moved-joined}
 use Rattle.fra_laws.proofs.Pairs.{other-other}
 use Rattle.fra_laws.proofs.ExchangeMatchings.{turned-length, matched-turned}
-use Rattle.fra_laws.proofs.ExchangePositions.{partners-turned, partner-turned}
+use Rattle.fra_laws.proofs.ExchangePositions.{partners-turned, partner-turned, room-turned}
 
 -- ── What a side has ──
 
@@ -44,7 +45,8 @@ state-turned p Right = refl
 
 module _ {r : ℕ} {t : Task} (valid : Valid r t) (p : Position) (legal-p : legal r t p ≡ true) where
   other-partner : (s : Side) (i : ℕ) → 1 ≤ i → partner (turned p) (other s) i ≡ partner p s i
-  other-partner s i h = partner-turned valid p legal-p (other s) i h ∙ rw (other-other s)
+  other-partner s i h =
+      partner-turned valid p (joined (legal-facts r t p legal-p)) (other s) i h ∙ rw (other-other s)
 
   -- ── Attacks ──
 
@@ -65,7 +67,7 @@ module _ {r : ℕ} {t : Task} (valid : Valid r t) (p : Position) (legal-p : lega
   case-turned s (Known i) New = refl
   case-turned s (LocallyFresh i) Held = refl
   case-turned s (LocallyFresh i) (Private j) = private-turned (other s) j
-  case-turned s (LocallyFresh i) Seen = refl
+  case-turned s (LocallyFresh i) Seen = room-turned valid p (joined (legal-facts r t p legal-p))
   case-turned s (LocallyFresh i) New = refl
   case-turned s (GloballyFresh i) Held = refl
   case-turned s (GloballyFresh i) (Private j) = refl
@@ -114,29 +116,32 @@ module _ {r : ℕ} {t : Task} (valid : Valid r t) (p : Position) (legal-p : lega
 
   -- ── After a round ──
 
-  moved-turned : {l e : Edge} → ValidEdge (t .left) l → ValidEdge (t .right) e
-      → moved (exchanged t) (turned p) e l ≡ turned (moved t p l e)
+  moved-turned : (size : ℕ) {l e : Edge} → ValidEdge (t .left) l → ValidEdge (t .right) e
+      → moved (exchanged t) (turned p) size e l ≡ turned (moved t p size l e)
   unfolding moved turned exchanged
-  moved-turned {l} {e} v w =
-      let h = legal-facts r t p legal-p in
+  moved-turned size {l} {e} v w =
+      let h = joined (legal-facts r t p legal-p) in
       let same =
       matched-turned (setOf (t .left) (l .to)) (setOf (t .right) (e .to)) (registerOf (l .kind)) (registerOf (e .kind))
       (p .partners) (omega (arith, v .greatest, valid .left .registers, h .long))
-      (omega (arith, w .greatest, valid .right .registers, h .long)) (partners-turned valid p legal-p)
-      (partners-turned valid (moved t p l e) (legal-intro r t (moved t p l e) (moved-legal h l e (v .to) (w .to)))) in
-      λ i. record { left = e .to; right = l .to; partners = same i }
+      (omega (arith, w .greatest, valid .right .registers, h .long)) (partners-turned valid p h)
+      (partners-turned valid (moved t p size l e) (moved-joined h size l e (v .to) (w .to))) in
+      λ i. record { left = e .to; right = l .to; partners = same i; history = size }
 
   pub after-mirrored : (g : Rules) (a : Attack) (k : ℕ) → a ∈ attacks g t p → k ∈ replies t p a
       → after (exchanged t) (turned p) (mirrored a) k ≡ turned (after t p a k)
-  unfolding after
+  unfolding after moved turned
   after-mirrored g a k m n =
-      rw (model-exchanged t (a .side), model-exchanged t (other (a .side)))
+      rw (model-exchanged t (a .side), model-exchanged t (other (a .side)), turned-length (p .partners))
       (step (a .side) (attackEdge t a) (replyEdge t a k)
       (valid-side valid (a .side) .edges (a .edge) (attack-edge-exists g t p a m))
       (valid-side valid (other (a .side)) .edges k (reply-edge-exists t p a k n)))
     where
+      size : ℕ
+      size = sizeAfter (length (p .partners)) (a .case) (p .history)
+
       step : (s : Side) (own others : Edge) → ValidEdge (modelOf t s) own → ValidEdge (modelOf t (other s)) others
-          → moved (exchanged t) (turned p) (leftOf (other s) own others) (rightOf (other s) own others)
-          ≡ turned (moved t p (leftOf s own others) (rightOf s own others))
-      step Left own others v w = moved-turned v w
-      step Right own others v w = moved-turned w v
+          → moved (exchanged t) (turned p) size (leftOf (other s) own others) (rightOf (other s) own others)
+          ≡ turned (moved t p size (leftOf s own others) (rightOf s own others))
+      step Left own others v w = moved-turned size v w
+      step Right own others v w = moved-turned size w v

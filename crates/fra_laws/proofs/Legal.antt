@@ -1,5 +1,4 @@
--- What it means that a position is legal, and that a left and a right edge into states that exist lead to a legal one, for any
--- register count. Assumes nothing.
+-- What it means that a position is legal, for any register count and any rules. Assumes nothing.
 use Prim.Native.Nat.{ℕ, _≤_, _<_}
 use mathlib.Core.Path.{_≡_, sym, subst}
 use mathlib.Core.Logic.{_⊎_, inl, inr}
@@ -7,12 +6,12 @@ use mathlib.Core.Bool.{true}
 use native.Mathlib.Omega.{arith}
 use lib.ListN.{length}
 use lib.Dec.{eqb}
-use borrow.Author.Tests.{ltb-true, lt-ltb, eqb-true, eq-eqb}
+use borrow.Author.Tests.{ltb-true, lt-ltb, leb-true, le-leb, eqb-true, eq-eqb}
 use Rattle.fra.specs.Lists.{_∈_}
 use Rattle.fra.specs.Registers.{has, with}
 use Rattle.fra.specs.Model.{setOf, registerOf}
 use Rattle.fra.specs.Rules.{Rules, other, modelOf}
-use Rattle.fra.specs.Position.{stateOf, filled, partner, leftPartner, legal}
+use Rattle.fra.specs.Position.{stateOf, filled, partner, leftPartner, mostSeen, held, legal}
 use Rattle.fra.specs.Game.{attacks, replies, moved}
 use Rattle.fra.specs.Valid.{RegisterRule, ValidModel, Valid}
 use Rattle.fra.specs.declared.EdgeKind.{EdgeKind}
@@ -57,11 +56,23 @@ held-before from to (GloballyFresh j) rule i h d = with-other from j i (rule i h
 
 -- ── Legal positions ──
 
--- "its states exist, partners join registers of the two states' sets and no right register is used twice"
+-- "its states exist, partners join registers of the two states' sets and no right register is used twice"; the history size is
+-- not "above 13 or below the numbers held together"
 pub record Legal (r : ℕ) (t : Task) (p : Position) : Type 0 where
   pub exists : (s : Side) → stateOf p s < modelOf t s .«state_count»
   pub long : length (p .partners) ≡ r
   pub matches : Matching (filled t p Left) (filled t p Right) (p .partners)
+  pub least : held t p ≤ p .history
+  pub most : p .history ≤ mostSeen r
+
+-- what this says of states and partners alone
+pub record Joined (r : ℕ) (t : Task) (p : Position) : Type 0 where
+  pub exists : (s : Side) → stateOf p s < modelOf t s .«state_count»
+  pub long : length (p .partners) ≡ r
+  pub matches : Matching (filled t p Left) (filled t p Right) (p .partners)
+
+pub joined : {r : ℕ} {t : Task} {p : Position} → Legal r t p → Joined r t p
+joined l = record { exists = l .exists; long = l .long; matches = l .matches }
 
 pub legal-facts : (r : ℕ) (t : Task) (p : Position) → legal r t p ≡ true → Legal r t p
 unfolding legal
@@ -70,6 +81,8 @@ legal-facts r t p h =
       exists = exists;
       long = eqb-true (length (p .partners)) r (search (and-left, and-right));
       matches = matching-facts (filled t p Left) (filled t p Right) (p .partners) (search (and-left, and-right));
+      least = leb-true (held t p) (p .history) (search (and-left, and-right));
+      most = leb-true (p .history) (mostSeen r) (search (and-left, and-right));
     }
   where
     exists : (s : Side) → stateOf p s < modelOf t s .«state_count»
@@ -83,8 +96,10 @@ legal-intro r t p l =
       lt-ltb (p .left) (t .left .«state_count») (l .exists Left),
       lt-ltb (p .right) (t .right .«state_count») (l .exists Right),
       eq-eqb (length (p .partners)) r (l .long),
+      matching-intro (filled t p Left) (filled t p Right) (p .partners) (l .matches),
+      le-leb (held t p) (p .history) (l .least),
     )
-    (matching-intro (filled t p Left) (filled t p Right) (p .partners) (l .matches))
+    (le-leb (p .history) (mostSeen r) (l .most))
 
 -- partners are mutual
 pub partner-mutual : {r : ℕ} {t : Task} {p : Position} → Legal r t p → (s : Side) (i j : ℕ) → 1 ≤ j → partner p s i ≡ j
@@ -105,10 +120,10 @@ pub reply-edge-exists : (t : Task) (p : Position) (a : Attack) (k : ℕ) → k �
 reply-edge-exists t p a k m = reply-at t p a k m .exists
 
 -- a left and a right edge into states that exist
-pub moved-legal : {r : ℕ} {t : Task} {p : Position} → Legal r t p → (l e : Edge) → l .to < t .left .«state_count»
-    → e .to < t .right .«state_count» → Legal r t (moved t p l e)
+pub moved-joined : {r : ℕ} {t : Task} {p : Position} → Joined r t p → (size : ℕ) (l e : Edge)
+    → l .to < t .left .«state_count» → e .to < t .right .«state_count» → Joined r t (moved t p size l e)
 unfolding moved
-moved-legal {t = t} {p = p} h l e a b =
+moved-joined {t = t} {p = p} h size l e a b =
     record {
       exists = exists;
       long = rw matched-length (h .long);
@@ -117,6 +132,6 @@ moved-legal {t = t} {p = p} h l e a b =
           (registerOf (e .kind));
     }
   where
-    exists : (s : Side) → stateOf (moved t p l e) s < modelOf t s .«state_count»
+    exists : (s : Side) → stateOf (moved t p size l e) s < modelOf t s .«state_count»
     exists Left = a
     exists Right = b

@@ -1,14 +1,14 @@
--- How many legal positions a task has: at most as many as pairs of states and matchings of r left with r right registers.
--- Assumes nothing.
-use Prim.Native.Nat.{ℕ, zero, suc, pred, _+_, _*_, _^_, _≤_, _<_}
-use mathlib.Core.Path.{_≡_, refl, _∙_}
+-- How many legal positions a task has: for each history size at most as many as pairs of states and matchings of r left with r
+-- right registers. Assumes nothing.
+use Prim.Native.Nat.{ℕ, zero, suc, pred, _+_, _*_, _-_, _^_, _≤_, _<_}
+use mathlib.Core.Path.{_≡_, refl, _∙_, subst}
 use mathlib.Core.Bool.{true}
 use mathlib.Core.List.{List, [], _∷_, map, flatMap, List·Memᴰ·head, List·Memᴰ·tail, Memᴰ·map}
 use native.Mathlib.Nat.{mul-le-mul, mul-le-mul-left, pow-le-pow-left, pow-zero, pow-succ', suc-inj, suc-ne-zero, le-refl, le-trans}
 use native.Mathlib.Omega.{arith}
 use lib.ListN.{length, getD, length-append, length-map}
 use Rattle.fra.specs.Lists.{_∈_, Unique, count}
-use Rattle.fra.specs.Position.{rightPartner, legal}
+use Rattle.fra.specs.Position.{rightPartner, mostSeen, legal}
 use Rattle.fra.specs.Valid.{Valid}
 use Rattle.fra.specs.declared.Position.{Position}
 use Rattle.fra.specs.declared.Task.{Task}
@@ -64,31 +64,32 @@ matchings-intro (suc x ∷ l) us a b =
 
 -- ── All positions ──
 
--- the positions with r registers in a left and a right state, in a left state, and in any states of a task
-abbrev inStates : ℕ → ℕ → ℕ → List Position
-inStates r left right = map (λ l. record { left = left; right = right; partners = l }) (matchings r (count 1 r))
+-- the positions of one history size, with r registers, in a left and a right state, in a left state, and in any states of a task
+abbrev inStates : ℕ → ℕ → ℕ → ℕ → List Position
+inStates r size left right =
+    map (λ l. record { left = left; right = right; partners = l; history = size }) (matchings r (count 1 r))
 
-abbrev inLeftState : ℕ → Task → ℕ → List Position
-inLeftState r t left = flatMap (inStates r left) (count 0 (t .right .«state_count»))
+abbrev inLeftState : ℕ → Task → ℕ → ℕ → List Position
+inLeftState r t size left = flatMap (inStates r size left) (count 0 (t .right .«state_count»))
 
-abbrev positions : ℕ → Task → List Position
-positions r t = flatMap (inLeftState r t) (count 0 (t .left .«state_count»))
+abbrev positions : ℕ → Task → ℕ → List Position
+positions r t size = flatMap (inLeftState r t size) (count 0 (t .left .«state_count»))
 
-positions-length : (r : ℕ) (t : Task)
-    → length (positions r t) ≡ t .left .«state_count» * t .right .«state_count» * injections r r
-positions-length r t =
-    flatMap-length (inLeftState r t) (count 0 (t .left .«state_count»)) (t .right .«state_count» * injections r r)
+positions-length : (r : ℕ) (t : Task) (size : ℕ)
+    → length (positions r t size) ≡ t .left .«state_count» * t .right .«state_count» * injections r r
+positions-length r t size =
+    flatMap-length (inLeftState r t size) (count 0 (t .left .«state_count»)) (t .right .«state_count» * injections r r)
     (λ q m.
-    flatMap-length (inStates r q) (count 0 (t .right .«state_count»)) (injections r r)
+    flatMap-length (inStates r size q) (count 0 (t .right .«state_count»)) (injections r r)
     (λ e n. rw (length-map, matchings-length r (count 1 r), count-length)) ∙ rw count-length)
     ∙ rw count-length (omega arith)
 
-positions-intro : {r : ℕ} {t : Task} → Valid r t → {p : Position} → Legal r t p → p ∈ positions r t
+positions-intro : {r : ℕ} {t : Task} → Valid r t → {p : Position} → Legal r t p → p ∈ positions r t (p .history)
 unfolding rightPartner
 positions-intro {r} {t} valid {p} l =
-    flatMap-intro (inLeftState r t) (state (t .left .«state_count») (l .exists Left))
-    (flatMap-intro (inStates r (p .left)) (state (t .right .«state_count») (l .exists Right))
-    (Memᴰ·map (λ l. record { left = p .left; right = p .right; partners = l })
+    flatMap-intro (inLeftState r t (p .history)) (state (t .left .«state_count») (l .exists Left))
+    (flatMap-intro (inStates r (p .history) (p .left)) (state (t .right .«state_count») (l .exists Right))
+    (Memᴰ·map (λ l. record { left = p .left; right = p .right; partners = l; history = p .history })
     (rw (l .long) at (matchings-intro (p .partners) (count 1 r) free once))))
   where
     state : {q : ℕ} (n : ℕ) → q < n → q ∈ count 0 n
@@ -112,21 +113,67 @@ injections-power (suc n) u =
     let b = le-trans (injections-power n (pred u)) (pow-le-pow-left {m = suc u} (omega arith) n) in
     rw pow-succ' (omega (arith, mul-le-mul-left u b))
 
--- no list of legal positions without duplicates is longer
+-- no list of legal positions without duplicates is longer, of one history size
 pub legal-count : {r : ℕ} {t : Task} → Valid r t
-    → (l : List Position) → Unique l → ((p : Position) → p ∈ l → legal r t p ≡ true)
+    → (size : ℕ) (l : List Position) → Unique l
+    → ((p : Position) → p ∈ l → (legal r t p ≡ true) × (p .history ≡ size))
     → length l ≤ t .left .«state_count» * t .right .«state_count» * injections r r
-legal-count {r} {t} valid l u h =
-    rw (← (positions-length r t))
-    (unique-length l (positions r t) u (λ p m. positions-intro valid (legal-facts r t p (h p m))))
+legal-count {r} {t} valid size l u h =
+    rw (← (positions-length r t size))
+    (unique-length l (positions r t size) u
+    (λ p m. let (a, e) = h p m in subst (λ k. p ∈ positions r t k) e (positions-intro valid (legal-facts r t p a))))
+
+-- nor of all sizes from a least one on
+pub legal-count-from : {r : ℕ} {t : Task} → Valid r t
+    → (least : ℕ) (l : List Position) → Unique l
+    → ((p : Position) → p ∈ l → (legal r t p ≡ true) × (least ≤ p .history))
+    → length l ≤ (suc (mostSeen r) - least) * (t .left .«state_count» * t .right .«state_count» * injections r r)
+legal-count-from {r} {t} valid least l u h = rw all-length at (unique-length l (flatMap (positions r t) sizes) u member)
+  where
+    sizes : List ℕ
+    sizes = count least (suc (mostSeen r) - least)
+
+    all-length : length (flatMap (positions r t) sizes)
+        ≡ (suc (mostSeen r) - least) * (t .left .«state_count» * t .right .«state_count» * injections r r)
+    all-length =
+        flatMap-length (positions r t) sizes (t .left .«state_count» * t .right .«state_count» * injections r r)
+        (λ size m. positions-length r t size)
+        ∙ rw count-length
+
+    member : (p : Position) → p ∈ l → p ∈ flatMap (positions r t) sizes
+    member p m =
+        let (a, b) = h p m in
+        let legal-p = legal-facts r t p a in
+        flatMap-intro (positions r t)
+        (count-intro least (suc (mostSeen r) - least) (p .history) b (omega (arith, legal-p .most)))
+        (positions-intro valid legal-p)
+
+-- 14 sizes with 3,411,712 positions each
+abbrev pub mostPositions : ℕ
+mostPositions = 47763968
 
 pub injections-six : injections 6 6 ≡ 13327
 unfolding injections
 injections-six = refl
 
--- "With 6 registers and 16 states a side there are at most 3,411,712 positions."
-pub most-positions : {t : Task} → Valid 6 t → t .left .«state_count» ≤ 16 → t .right .«state_count» ≤ 16
-    → (l : List Position) → Unique l → ((p : Position) → p ∈ l → legal 6 t p ≡ true)
-    → length l ≤ 3411712
-most-positions valid a b l u h =
-    le-trans (legal-count valid l u h) (rw injections-six (mul-le-mul (mul-le-mul a b) (le-refl 13327)))
+module _ {t : Task} (valid : Valid 6 t) (left : t .left .«state_count» ≤ 16) (right : t .right .«state_count» ≤ 16) where
+  most-in-states : t .left .«state_count» * t .right .«state_count» * injections 6 6 ≤ 3411712
+  most-in-states = rw injections-six (mul-le-mul (mul-le-mul left right) (le-refl 13327))
+
+  -- "With 6 registers and 16 states a side there are at most 3,411,712 positions"; 02, ticket 2: it "now holds for each history
+  -- size"
+  pub most-positions : (size : ℕ) (l : List Position) → Unique l
+      → ((p : Position) → p ∈ l → (legal 6 t p ≡ true) × (p .history ≡ size))
+      → length l ≤ 3411712
+  most-positions size l u h = le-trans (legal-count valid size l u h) most-in-states
+
+  -- so many for each size from a least one to 13
+  pub most-positions-from : (least : ℕ) (l : List Position) → Unique l
+      → ((p : Position) → p ∈ l → (legal 6 t p ≡ true) × (least ≤ p .history))
+      → length l ≤ (14 - least) * 3411712
+  most-positions-from least l u h =
+      le-trans (legal-count-from valid least l u h) (mul-le-mul-left (14 - least) most-in-states)
+
+  pub most-positions-all : (l : List Position) → Unique l → ((p : Position) → p ∈ l → legal 6 t p ≡ true)
+      → length l ≤ mostPositions
+  most-positions-all l u h = most-positions-from 0 l u (λ p m. (h p m, omega arith))

@@ -3,12 +3,12 @@ use Prim.Native.Nat.{ℕ, zero, suc, _+_, _*_, _≤_, _<_}
 use mathlib.Core.Path.{_≡_, refl, sym, _∙_, ap}
 use mathlib.Core.Logic.{_⊎_, inl, inr, ⊎-elim}
 use mathlib.Core.Bool.{Bool, true, false}
-use mathlib.Core.List.{List, [], _∷_, _++_, map, flatMap, List·Memᴰ·head, List·Memᴰ·tail, List·Memᴰ·not-nil, List·Memᴰ·cases-cons, Memᴰ·cast, Memᴰ·map, Memᴰ·of-map}
+use mathlib.Core.List.{List, [], _∷_, _++_, map, flatMap, List·Memᴰ·head, List·Memᴰ·tail, List·Memᴰ·not-nil, List·Memᴰ·cases-cons, List·Memᴰ·append-cases, Memᴰ·cast, Memᴰ·map, Memᴰ·of-map}
 use native.Mathlib.Nat.{add-zero}
 use native.Mathlib.Omega.{arith}
 use lib.ListN.{length, length-append, length-map}
 use Rattle.fra.specs.Lists.{_∈_, Unique, keep, count}
-use Rattle.fra_laws.proofs.Lists.{keep-passes, keep-fails, count-elim}
+use Rattle.fra_laws.proofs.Lists.{keep-passes, keep-fails, keep-elim, count-elim}
 
 -- ── Lengths ──
 
@@ -94,6 +94,22 @@ module _ {A : Type 0} where
       )
 
   -- ── Lists without duplicates ──
+
+  pub keep-unique : (f : A → Bool) (l : List A) → Unique l → Unique (keep f l)
+  unfolding keep
+  keep-unique f [] u = tt
+  keep-unique f (x ∷ xs) (new, u) = step (f x) refl (keep-unique f xs u)
+    where
+      step : (b : Bool) → f x ≡ b → Unique (keep f xs) → Unique (keep f (x ∷ xs))
+      step true e rest = rw (keep-passes f x xs e) (λ m. new (keep-elim f x xs m .0), rest)
+      step false e rest = rw (keep-fails f x xs e) rest
+
+  pub append-unique : (l m : List A) → Unique l → Unique m → ((x : A) → x ∈ l → x ∈ m → ⊥) → Unique (l ++ m)
+  append-unique [] m u v apart = v
+  append-unique (x ∷ l) m (new, u) v apart = (
+    λ n. ⊎-elim new (apart x (List·Memᴰ·head refl)) (List·Memᴰ·append-cases l n),
+    append-unique l m u v (λ y i j. apart y (List·Memᴰ·tail i) j),
+  )
 
   -- a function that tells the elements of a list apart
   pub map-unique : {B : Type 0} (f : A → B) (l : List A) → ((a b : A) → a ∈ l → b ∈ l → f a ≡ f b → a ≡ b) → Unique l

@@ -2,15 +2,15 @@
 use Prim.Native.Nat.{ℕ, _<_}
 use mathlib.Core.Path.{_≡_, refl, sym, _∙_, ap₂}
 use mathlib.Core.Logic.{_⊎_, inl, inr, ⊎-elim, _↔_}
-use mathlib.Core.Bool.{Bool, true, false, _&&_, _||_, false≢true, true≢false}
-use mathlib.Core.List.{List, [], _∷_, List·Memᴰ·head, List·Memᴰ·tail, List·Memᴰ·not-nil, List·Memᴰ·cases-cons}
+use mathlib.Core.Bool.{Bool, true, false, _&&_, false≢true, true≢false, _||_}
+use mathlib.Core.List.{List, [], _∷_, _++_, List·Memᴰ·head, List·Memᴰ·tail, List·Memᴰ·not-nil, List·Memᴰ·cases-cons}
 use native.Mathlib.Omega.{arith}
 use lib.Dec.{ltb, eqb}
 use borrow.Author.Tests.{ltb-true, ltb-false, eqb-true, lt-ltb, le-ltb, eq-eqb}
 use Rattle.fra.specs.Lists.{_∈_, below, equal, keep}
 use Rattle.fra.specs.Position.{bytes, before, Rising}
 use Rattle.fra.specs.declared.Position.{Position}
-use Rattle.fra_laws.proofs.Tests.{and-left, and-right, and-intro, or-cases, or-left, or-right, or-false-left, or-false-right, not-both, fails-unless}
+use Rattle.fra_laws.proofs.Tests.{and-left, and-right, and-intro, or-cases, or-left, or-right, or-false-left, or-false-right, not-both, fails-unless, clash}
 use Rattle.fra_laws.proofs.Lists.{keep-passes, keep-fails, keep-elim}
 
 -- ── equal ──
@@ -84,9 +84,21 @@ below-total (x ∷ l) (y ∷ m) p q =
 
 -- ── positions ──
 
+-- strings that end in one more number each
+ends-injective : (l m : List ℕ) (x y : ℕ) → l ++ (x ∷ []) ≡ m ++ (y ∷ []) → (l ≡ m) × (x ≡ y)
+ends-injective [] [] x y e = (refl, cc)
+ends-injective [] (b ∷ []) x y e = absurd (clash (cc))
+ends-injective [] (b ∷ c ∷ m) x y e = absurd (clash (cc))
+ends-injective (a ∷ []) [] x y e = absurd (clash (cc))
+ends-injective (a ∷ c ∷ l) [] x y e = absurd (clash (cc))
+ends-injective (a ∷ l) (b ∷ m) x y e =
+    let first : a ≡ b = cc in
+    let (same, last) = ends-injective l m x y cc in
+    (ap₂ (λ (c : ℕ) (k : List ℕ). c ∷ k) first same, last)
+
 pub bytes-injective : (p q : Position) → bytes p ≡ bytes q → p ≡ q
 unfolding bytes
-bytes-injective p q e = λ i. record { left = a i; right = b i; partners = c i }
+bytes-injective p q e = λ i. record { left = a i; right = b i; partners = c .0 i; history = c .1 i }
   where
     a : p .left ≡ q .left
     a = cc
@@ -94,8 +106,8 @@ bytes-injective p q e = λ i. record { left = a i; right = b i; partners = c i }
     b : p .right ≡ q .right
     b = cc
 
-    c : p .partners ≡ q .partners
-    c = cc
+    c : (p .partners ≡ q .partners) × (p .history ≡ q .history)
+    c = ends-injective (p .partners) (q .partners) (p .history) (q .history) cc
 
 pub before-irreflexive : (p : Position) → before p p ≡ false
 unfolding before

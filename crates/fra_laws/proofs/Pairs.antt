@@ -1,17 +1,20 @@
--- Pairs of a left and a right edge that can take one number: which kinds answer each other. For any rules and register count.
--- Assumes nothing.
+-- Pairs of a left and a right edge that can take one number: which kinds answer each other, and the history's size after such a
+-- round. For any rules and register count. Assumes nothing.
 use Prim.Native.Nat.{ℕ, zero, suc, _≤_, _<_}
 use mathlib.Core.Path.{_≡_, refl, sym, _∙_}
-use mathlib.Core.Bool.{true, false, false≢true}
+use mathlib.Core.Logic.{_⊎_, inl, inr}
+use mathlib.Core.Bool.{Bool, true, false, cond, false≢true}
+use mathlib.Core.List.{List, [], _∷_, List·Memᴰ·head, List·Memᴰ·tail, List·Memᴰ·not-nil, List·Memᴰ·cases-cons, List·Memᴰ·eq-of-singleton}
 use native.Mathlib.Omega.{arith}
+use lib.ListN.{length}
 use lib.Dec.{eqb}
 use borrow.Author.Tests.{eqb-true, eq-eqb}
 use Rattle.fra.specs.Lists.{_∈_}
 use Rattle.fra.specs.Registers.{has}
 use Rattle.fra.specs.Model.{setOf, edgeOf, registerOf}
 use Rattle.fra.specs.Rules.{Rules, other, leftOf, rightOf, modelOf}
-use Rattle.fra.specs.Position.{stateOf, filled, partner}
-use Rattle.fra.specs.Game.{hasCase, attacks, answers, replies, moved}
+use Rattle.fra.specs.Position.{stateOf, filled, partner, hasRoom}
+use Rattle.fra.specs.Game.{hasCase, attacks, answers, replies, sizeAfter, moved}
 use Rattle.fra.specs.Valid.{RegisterRule, ValidEdge, Valid}
 use Rattle.fra.specs.declared.EdgeKind.{EdgeKind}
 use Rattle.fra.specs.declared.EdgeKind.the-variants.{Known, LocallyFresh, GloballyFresh}
@@ -24,7 +27,7 @@ use Rattle.fra.specs.declared.Side.the-variants.{Left, Right}
 use Rattle.fra.specs.declared.IdCase.{IdCase}
 use Rattle.fra.specs.declared.IdCase.the-variants.{Held, Private, Seen, New}
 use Rattle.fra.specs.declared.Attack.{Attack}
-use Rattle.fra_laws.specs.Joint.{compatible}
+use Rattle.fra_laws.specs.Joint.{compatible, sizesAfter}
 use Rattle.fra_laws.proofs.Tests.{and-right, and-intro}
 use Rattle.fra_laws.proofs.AttackMembers.{Within, attack-at, reply-at}
 use Rattle.fra_laws.proofs.Legal.{valid-side, Legal, partner-mutual}
@@ -68,6 +71,52 @@ answers-compatible t p s (GloballyFresh i) New (Known k) h e = absurd (false≢t
 answers-compatible t p s (GloballyFresh i) New (LocallyFresh k) h e = refl
 answers-compatible t p s (GloballyFresh i) New (GloballyFresh k) h e = refl
 
+-- the history sizes after a round of two such edges, from a position
+abbrev pub sizesFrom : Task → Position → EdgeKind → EdgeKind → List ℕ
+sizesFrom t p own others = sizesAfter (length (p .partners)) (hasRoom t p) (p .history) own others
+
+-- it has the size that a round in this case leads to
+answers-size : (r : ℕ) (t : Task) (p : Position) (s : Side) (own : EdgeKind) (c : IdCase) (others : EdgeKind)
+    → hasCase t p s own c ≡ true → answers (partner p s (registerOf own)) c others ≡ true
+    → sizeAfter r c (p .history) ∈ sizesAfter r (hasRoom t p) (p .history) own others
+unfolding hasCase answers sizesAfter
+answers-size r t p s (Known i) Held (Known k) h e = List·Memᴰ·head refl
+answers-size r t p s (Known i) Held (LocallyFresh k) h e = List·Memᴰ·head refl
+answers-size r t p s (Known i) Held (GloballyFresh k) h e = List·Memᴰ·head refl
+answers-size r t p s (Known i) (Private j) others h e = absurd (false≢true h)
+answers-size r t p s (Known i) Seen others h e = absurd (false≢true h)
+answers-size r t p s (Known i) New others h e = absurd (false≢true h)
+answers-size r t p s (LocallyFresh i) Held others h e = absurd (false≢true h)
+answers-size r t p s (LocallyFresh i) (Private j) (Known k) h e = List·Memᴰ·head refl
+answers-size r t p s (LocallyFresh i) (Private j) (LocallyFresh k) h e = absurd (false≢true e)
+answers-size r t p s (LocallyFresh i) (Private j) (GloballyFresh k) h e = absurd (false≢true e)
+answers-size r t p s (LocallyFresh i) Seen (Known k) h e = absurd (false≢true e)
+answers-size r t p s (LocallyFresh i) Seen (LocallyFresh k) h e = rw h (List·Memᴰ·tail (List·Memᴰ·head refl))
+answers-size r t p s (LocallyFresh i) Seen (GloballyFresh k) h e = absurd (false≢true e)
+answers-size r t p s (LocallyFresh i) New (Known k) h e = absurd (false≢true e)
+answers-size r t p s (LocallyFresh i) New (LocallyFresh k) h e = List·Memᴰ·head refl
+answers-size r t p s (LocallyFresh i) New (GloballyFresh k) h e = List·Memᴰ·head refl
+answers-size r t p s (GloballyFresh i) Held others h e = absurd (false≢true h)
+answers-size r t p s (GloballyFresh i) (Private j) others h e = absurd (false≢true h)
+answers-size r t p s (GloballyFresh i) Seen others h e = absurd (false≢true h)
+answers-size r t p s (GloballyFresh i) New (Known k) h e = absurd (false≢true e)
+answers-size r t p s (GloballyFresh i) New (LocallyFresh k) h e = List·Memᴰ·head refl
+answers-size r t p s (GloballyFresh i) New (GloballyFresh k) h e = List·Memᴰ·head refl
+
+-- it is the same from the other side
+sizes-other : (r : ℕ) (room : Bool) (size : ℕ) (own others : EdgeKind)
+    → sizesAfter r room size others own ≡ sizesAfter r room size own others
+unfolding sizesAfter
+sizes-other r room size (Known i) (Known j) = refl
+sizes-other r room size (Known i) (LocallyFresh j) = refl
+sizes-other r room size (Known i) (GloballyFresh j) = refl
+sizes-other r room size (LocallyFresh i) (Known j) = refl
+sizes-other r room size (LocallyFresh i) (LocallyFresh j) = refl
+sizes-other r room size (LocallyFresh i) (GloballyFresh j) = refl
+sizes-other r room size (GloballyFresh i) (Known j) = refl
+sizes-other r room size (GloballyFresh i) (LocallyFresh j) = refl
+sizes-other r room size (GloballyFresh i) (GloballyFresh j) = refl
+
 -- the register that an edge reads is in the set
 abbrev pub Reads : ℕ → EdgeKind → Type 0
 Reads set (Known i) = has set i ≡ true
@@ -82,10 +131,11 @@ edge-reads {m} {e} v = step (e .kind) (v .rule)
     step (LocallyFresh i) h = tt
     step (GloballyFresh i) h = tt
 
--- a case in which a compatible kind answers
-pub record Answered (r : ℕ) (t : Task) (p : Position) (s : Side) (own others : EdgeKind) : Type 0 where
+-- a case in which a compatible kind answers, and a round in which the history then has the size
+pub record Answered (r : ℕ) (t : Task) (p : Position) (s : Side) (own others : EdgeKind) (size : ℕ) : Type 0 where
   pub case : IdCase
   pub within : Within r case
+  pub leads : sizeAfter r case (p .history) ≡ size
   pub in-case : hasCase t p s own case ≡ true
   pub answering : answers (partner p s (registerOf own)) case others ≡ true
 
@@ -94,26 +144,51 @@ unfolding answers
 partner-answers zero j l e = absurd (omega arith)
 partner-answers (suc b) j l e = eq-eqb j (suc b) (sym e)
 
-pub compatible-answers : (r : ℕ) (t : Task) (p : Position) (s : Side) (own others : EdgeKind) → 1 ≤ registerOf others
+-- two locally fresh edges take a new number, or one seen before if there is room
+locally-fresh-answers : (r : ℕ) (t : Task) (p : Position) (s : Side) (i j size : ℕ)
+    → size ∈ sizeAfter r New (p .history) ∷ cond (hasRoom t p) (p .history ∷ []) []
+    → Answered r t p s (LocallyFresh i) (LocallyFresh j) size
+unfolding hasCase answers
+locally-fresh-answers r t p s i j size m = step (List·Memᴰ·cases-cons m) (hasRoom t p) refl
+  where
+    step : (size ≡ sizeAfter r New (p .history)) ⊎ (size ∈ cond (hasRoom t p) (p .history ∷ []) [])
+        → (room : Bool) → hasRoom t p ≡ room
+        → Answered r t p s (LocallyFresh i) (LocallyFresh j) size
+    step (inl e) room q = record { case = New; within = tt; leads = sym e; in-case = refl; answering = refl }
+    step (inr n) true q =
+        let e : size ≡ p .history = List·Memᴰ·eq-of-singleton (rw q at n) in
+        record { case = Seen; within = tt; leads = sym e; in-case = q; answering = refl }
+    step (inr n) false q = absurd (List·Memᴰ·not-nil (rw q at n))
+
+pub compatible-answers : (r : ℕ) (t : Task) (p : Position) (s : Side) (own others : EdgeKind) (size : ℕ) → 1 ≤ registerOf others
     → registerOf others ≤ r → Reads (filled t p (other s)) others → compatible p s own others ≡ true
-    → Answered r t p s own others
-unfolding hasCase answers compatible
-compatible-answers r t p s (Known i) (Known j) l g h e =
-    record { case = Held; within = tt; in-case = refl; answering = partner-answers (partner p s i) j l (eqb-true (partner p s i) j e) }
-compatible-answers r t p s (Known i) (LocallyFresh j) l g h e =
-    record { case = Held; within = tt; in-case = refl; answering = rw (eqb-true (partner p s i) 0 e) }
-compatible-answers r t p s (Known i) (GloballyFresh j) l g h e = absurd (false≢true e)
-compatible-answers r t p s (LocallyFresh i) (Known j) l g h e =
-    record { case = Private j; within = (l, g); in-case = and-intro _ _ h e; answering = eq-eqb j j refl }
-compatible-answers r t p s (LocallyFresh i) (LocallyFresh j) l g h e =
-    record { case = New; within = tt; in-case = refl; answering = refl }
-compatible-answers r t p s (LocallyFresh i) (GloballyFresh j) l g h e =
-    record { case = New; within = tt; in-case = refl; answering = refl }
-compatible-answers r t p s (GloballyFresh i) (Known j) l g h e = absurd (false≢true e)
-compatible-answers r t p s (GloballyFresh i) (LocallyFresh j) l g h e =
-    record { case = New; within = tt; in-case = refl; answering = refl }
-compatible-answers r t p s (GloballyFresh i) (GloballyFresh j) l g h e =
-    record { case = New; within = tt; in-case = refl; answering = refl }
+    → size ∈ sizesAfter r (hasRoom t p) (p .history) own others
+    → Answered r t p s own others size
+unfolding hasCase answers compatible sizesAfter
+compatible-answers r t p s (Known i) (Known j) size l g h e m =
+    let held = sym (List·Memᴰ·eq-of-singleton m) in
+    record {
+      case = Held;
+      within = tt;
+      leads = held;
+      in-case = refl;
+      answering = partner-answers (partner p s i) j l (eqb-true (partner p s i) j e);
+    }
+compatible-answers r t p s (Known i) (LocallyFresh j) size l g h e m =
+    let held = sym (List·Memᴰ·eq-of-singleton m) in
+    record { case = Held; within = tt; leads = held; in-case = refl; answering = rw (eqb-true (partner p s i) 0 e) }
+compatible-answers r t p s (Known i) (GloballyFresh j) size l g h e m = absurd (false≢true e)
+compatible-answers r t p s (LocallyFresh i) (Known j) size l g h e m =
+    let held = sym (List·Memᴰ·eq-of-singleton m) in
+    record { case = Private j; within = (l, g); leads = held; in-case = and-intro _ _ h e; answering = eq-eqb j j refl }
+compatible-answers r t p s (LocallyFresh i) (LocallyFresh j) size l g h e m = locally-fresh-answers r t p s i j size m
+compatible-answers r t p s (LocallyFresh i) (GloballyFresh j) size l g h e m =
+    record { case = New; within = tt; leads = sym (List·Memᴰ·eq-of-singleton m); in-case = refl; answering = refl }
+compatible-answers r t p s (GloballyFresh i) (Known j) size l g h e m = absurd (false≢true e)
+compatible-answers r t p s (GloballyFresh i) (LocallyFresh j) size l g h e m =
+    record { case = New; within = tt; leads = sym (List·Memᴰ·eq-of-singleton m); in-case = refl; answering = refl }
+compatible-answers r t p s (GloballyFresh i) (GloballyFresh j) size l g h e m =
+    record { case = New; within = tt; leads = sym (List·Memᴰ·eq-of-singleton m); in-case = refl; answering = refl }
 
 -- in a legal position it is the same from the other side
 compatible-other : {r : ℕ} {t : Task} {p : Position} → Legal r t p → (s : Side) (own others : EdgeKind)
@@ -137,24 +212,26 @@ pub other-other : (s : Side) → other (other s) ≡ s
 other-other Left = refl
 other-other Right = refl
 
--- from position p, edge number k of side s and edge number j of the other side can take one number
-pub record Pair (t : Task) (p : Position) (s : Side) (k j : ℕ) : Type 0 where
+-- from position p, edge number k of side s and edge number j of the other side can take one number, and the history then has this
+-- size
+pub record Pair (t : Task) (p : Position) (s : Side) (k j size : ℕ) : Type 0 where
   pub exists : k < modelOf t s .«edge_count»
   pub other-exists : j < modelOf t (other s) .«edge_count»
   pub starts : edgeOf (modelOf t s) k .from ≡ stateOf p s
   pub other-starts : edgeOf (modelOf t (other s)) j .from ≡ stateOf p (other s)
   pub tag : edgeOf (modelOf t (other s)) j .tag ≡ edgeOf (modelOf t s) k .tag
   pub joint : compatible p s (edgeOf (modelOf t s) k .kind) (edgeOf (modelOf t (other s)) j .kind) ≡ true
+  pub sized : size ∈ sizesFrom t p (edgeOf (modelOf t s) k .kind) (edgeOf (modelOf t (other s)) j .kind)
 
 -- where they lead
-abbrev pub movedBy : Task → Position → Side → ℕ → ℕ → Position
-movedBy t p s k j =
-    moved t p (leftOf s (edgeOf (modelOf t s) k) (edgeOf (modelOf t (other s)) j))
+abbrev pub movedBy : Task → Position → Side → ℕ → ℕ → ℕ → Position
+movedBy t p s k j size =
+    moved t p size (leftOf s (edgeOf (modelOf t s) k) (edgeOf (modelOf t (other s)) j))
     (rightOf s (edgeOf (modelOf t s) k) (edgeOf (modelOf t (other s)) j))
 
 -- an attack and a reply are a pair
 pub reply-pair : (g : Rules) (t : Task) (p : Position) (a : Attack) (j : ℕ) → a ∈ attacks g t p → j ∈ replies t p a
-    → Pair t p (a .side) (a .edge) j
+    → Pair t p (a .side) (a .edge) j (sizeAfter (length (p .partners)) (a .case) (p .history))
 reply-pair g t p a j m n =
     let x = attack-at g t p a m in
     let y = reply-at t p a j n in
@@ -165,12 +242,13 @@ reply-pair g t p a j m n =
       other-starts = y .starts;
       tag = y .tag;
       joint = answers-compatible t p (a .side) _ (a .case) _ (x .in-case) (y .answering);
+      sized = answers-size (length (p .partners)) t p (a .side) _ (a .case) _ (x .in-case) (y .answering);
     }
 
 -- it is a pair from the other side too
 module _ {r : ℕ} {t : Task} (valid : Valid r t) {p : Position} (l : Legal r t p) where
-  pub other-pair : (s : Side) (k j : ℕ) → Pair t p s k j → Pair t p (other s) j k
-  other-pair s k j x =
+  pub other-pair : (s : Side) (k j size : ℕ) → Pair t p s k j size → Pair t p (other s) j k size
+  other-pair s k j size x =
       record {
         exists = x .other-exists;
         other-exists = rw (other-other s) (x .exists);
@@ -180,4 +258,5 @@ module _ {r : ℕ} {t : Task} (valid : Valid r t) {p : Position} (l : Legal r t 
         joint =
             rw (other-other s)
             (compatible-other l s _ _ (valid-side valid (other s) .edges j (x .other-exists) .least) (x .joint));
+        sized = rw (other-other s, sizes-other _ _ _ (edgeOf (modelOf t s) k .kind) _) (x .sized);
       }

@@ -1,27 +1,31 @@
 -- The list of positions reached holds exactly the positions that attacks and replies lead to from the start of a valid task;
 -- they are legal, and there are no more of them than 01 says. Assumes nothing.
-use Prim.Native.Nat.{ℕ, _*_, _≤_}
+use Prim.Native.Nat.{ℕ, suc, _*_, _-_, _≤_}
 use mathlib.Core.Path.{_≡_}
 use mathlib.Core.Logic.{_↔_}
-use mathlib.Core.Bool.{true}
-use mathlib.Core.List.{List, [], _∷_, map, Memᴰ·map}
+use mathlib.Core.Bool.{Bool, true, false, cond}
+use mathlib.Core.List.{List, [], _∷_, map, Memᴰ·map, Memᴰ·of-map}
+use native.Mathlib.Omega.{arith}
 use native.Mathlib.Nat.{le-trans, mul-le-mul-left}
 use lib.ListN.{length}
+use lib.Dec.{ltb}
 use Rattle.fra.specs.Lists.{_∈_, Unique}
 use Rattle.fra.specs.Rules.{Rules}
-use Rattle.fra.specs.Position.{Rising, legal}
-use Rattle.fra.specs.Game.{attacks, replies, after}
+use Rattle.fra.specs.Position.{mostSeen, Rising, legal}
+use Rattle.fra.specs.Game.{attacks, replies, sizeAfter, moved, after}
 use Rattle.fra.specs.Reach.{begin, successors, Reached, closed, enough, reached}
 use Rattle.fra.specs.Valid.{Valid}
 use Rattle.fra.specs.declared.Position.{Position}
 use Rattle.fra.specs.declared.Task.{Task}
+use Rattle.fra.specs.declared.IdCase.{IdCase}
+use Rattle.fra.specs.declared.IdCase.the-variants.{Held, Private, Seen, New}
 use Rattle.fra.specs.declared.Attack.{Attack}
-use Rattle.fra_laws.proofs.Lists.{flatMap-intro}
+use Rattle.fra_laws.proofs.Lists.{flatMap-intro, flatMap-elim}
 use Rattle.fra_laws.proofs.Lengths.{unique-length}
 use Rattle.fra_laws.proofs.Closure.{Computes, closed-computes, closure-keeps, rising-unique}
 use Rattle.fra_laws.proofs.Legal.{legal-facts}
 use Rattle.fra_laws.proofs.LegalRounds.{successors-legal}
-use Rattle.fra_laws.proofs.LegalPositions.{injections-power, legal-count}
+use Rattle.fra_laws.proofs.LegalPositions.{injections-power, legal-count-from}
 
 -- an attack and its reply lead to a successor
 pub successors-intro : (g : Rules) (t : Task) (p : Position) (a : Attack) (k : ℕ) → a ∈ attacks g t p → k ∈ replies t p a
@@ -29,14 +33,38 @@ pub successors-intro : (g : Rules) (t : Task) (p : Position) (a : Attack) (k : �
 unfolding successors
 successors-intro g t p a k m n = flatMap-intro (λ a. map (after t p a) (replies t p a)) m (Memᴰ·map (after t p a) n)
 
+-- ── The history never shrinks ──
+
+size-grows : (r : ℕ) (c : IdCase) (size : ℕ) → size ≤ sizeAfter r c size
+size-grows r Held size = omega arith
+size-grows r (Private j) size = omega arith
+size-grows r Seen size = omega arith
+size-grows r New size = step (ltb size (mostSeen r))
+  where
+    step : (b : Bool) → size ≤ cond b (suc size) size
+    step true = omega arith
+    step false = omega arith
+
+pub history-grows : (g : Rules) (t : Task) {p : Position} → Reached g t p → t .start .history ≤ p .history
+unfolding successors after moved
+history-grows g t c =
+    closure-keeps (λ p. t .start .history ≤ p .history) (omega arith)
+    (λ p q h m.
+    let (a, i, n) = flatMap-elim (λ a. map (after t p a) (replies t p a)) (attacks g t p) m in
+    let (k, j, e) = Memᴰ·of-map (after t p a) (replies t p a) n in
+    rw (← e) (le-trans h (size-grows (length (p .partners)) (a .case) (p .history))))
+    c
+
 module _ {r : ℕ} {t : Task} (valid : Valid r t) where
   -- the fuel is no less than the number of legal positions
   legal-enough : (l : List Position) → Unique l → ((p : Position) → p ∈ l → legal r t p ≡ true) → length l ≤ enough t
   unfolding enough
   legal-enough l u h =
+      let all : suc (mostSeen r) - 0 ≡ suc (mostSeen r) = omega arith in
       rw (legal-facts r t (t .start) (valid .start-legal) .long)
-      (le-trans (legal-count valid l u h)
-      (mul-le-mul-left (t .left .«state_count» * t .right .«state_count») (injections-power r r)))
+      (le-trans (rw all at (legal-count-from valid 0 l u (λ p m. (h p m, omega arith))))
+      (mul-le-mul-left (suc (mostSeen r))
+      (mul-le-mul-left (t .left .«state_count» * t .right .«state_count») (injections-power r r))))
 
   -- so it suffices for every step that keeps positions legal
   pub enough-computes : (step : Position → List Position)

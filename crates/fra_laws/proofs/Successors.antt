@@ -6,10 +6,11 @@ use mathlib.Core.Logic.{_↔_}
 use mathlib.Core.Bool.{true}
 use mathlib.Core.List.{map, Memᴰ·of-map}
 use native.Mathlib.Omega.{arith}
+use lib.ListN.{length}
 use Rattle.fra.specs.Lists.{_∈_}
 use Rattle.fra.specs.Rules.{Rules, other}
 use Rattle.fra.specs.Position.{legal}
-use Rattle.fra.specs.Game.{attacks, replies, after}
+use Rattle.fra.specs.Game.{attacks, replies, sizeAfter, after}
 use Rattle.fra.specs.Reach.{successors}
 use Rattle.fra.specs.Valid.{Valid}
 use Rattle.fra.specs.declared.Position.{Position}
@@ -28,38 +29,44 @@ module _ {r : ℕ} {t : Task} (valid : Valid r t) (g : Rules) (p : Position) (le
   l = legal-facts r t p legal-p
 
   -- it is an attack of side s, if that attacks, and a reply
-  pair-reply : (s : Side) (k j : ℕ) → g .attacks s ≡ true → Pair t p s k j → movedBy t p s k j ∈ successors g t p
+  pair-reply : (s : Side) (k j size : ℕ) → g .attacks s ≡ true → Pair t p s k j size → movedBy t p s k j size ∈ successors g t p
   unfolding after
-  pair-reply s k j h x =
+  pair-reply s k j size h x =
       let m = valid-side valid (other s) in
       let e = m .edges j (x .other-exists) in
       let u =
-      compatible-answers r t p s _ _ (e .least) (omega (arith, e .greatest, m .registers))
-      (rw (← x .other-starts) (edge-reads e)) (x .joint) in
+      compatible-answers r t p s _ _ size (e .least) (omega (arith, e .greatest, m .registers))
+      (rw (← x .other-starts) (edge-reads e)) (x .joint) (rw (l .long) at (x .sized)) in
       let a : Attack = record { side = s; edge = k; case = u .case } in
-      successors-intro g t p a j
+      let same : sizeAfter (length (p .partners)) (u .case) (p .history) ≡ size = rw (l .long) (u .leads) in
+      rw same at
+      (successors-intro g t p a j
       (is-attack g t p a (record { allowed = h; exists = x .exists; starts = x .starts; in-case = u .in-case })
       (rw (l .long) (u .within)))
       (is-reply t p a j
-      (record { exists = x .other-exists; starts = x .other-starts; tag = x .tag; answering = u .answering }))
+      (record { exists = x .other-exists; starts = x .other-starts; tag = x .tag; answering = u .answering })))
 
   -- the positions that attacks and replies lead to are those that pairs of a left and a right edge lead to
   pub successors-by-pairs : (s : Side) → g .attacks s ≡ true → (q : Position)
-      → (q ∈ successors g t p) ↔ ((k : ℕ) × (j : ℕ) × Pair t p Left k j × (q ≡ movedBy t p Left k j))
+      → (q ∈ successors g t p)
+      ↔ ((k : ℕ) × (j : ℕ) × (size : ℕ) × Pair t p Left k j size × (q ≡ movedBy t p Left k j size))
   unfolding successors after
-  successors-by-pairs s h q = (there, λ (k, j, x, e). rw e (back s k j h x))
+  successors-by-pairs s h q = (there, λ (k, j, size, x, e). rw e (back s k j size h x))
     where
-      to-left : (s : Side) (k j : ℕ) → Pair t p s k j → movedBy t p s k j ≡ q
-          → (k : ℕ) × (j : ℕ) × Pair t p Left k j × (q ≡ movedBy t p Left k j)
-      to-left Left k j x e = (k, j, x, sym e)
-      to-left Right k j x e = (j, k, other-pair valid l Right k j x, sym e)
+      ByPair : Type 0
+      ByPair = (k : ℕ) × (j : ℕ) × (size : ℕ) × Pair t p Left k j size × (q ≡ movedBy t p Left k j size)
 
-      there : q ∈ successors g t p → (k : ℕ) × (j : ℕ) × Pair t p Left k j × (q ≡ movedBy t p Left k j)
+      to-left : (s : Side) (k j size : ℕ) → Pair t p s k j size → movedBy t p s k j size ≡ q → ByPair
+      to-left Left k j size x e = (k, j, size, x, sym e)
+      to-left Right k j size x e = (j, k, size, other-pair valid l Right k j size x, sym e)
+
+      there : q ∈ successors g t p → ByPair
       there m =
           let (a, i, n) = flatMap-elim (λ a. map (after t p a) (replies t p a)) (attacks g t p) m in
           let (j, d, e) = Memᴰ·of-map (after t p a) (replies t p a) n in
-          to-left (a .side) (a .edge) j (reply-pair g t p a j i d) e
+          to-left (a .side) (a .edge) j _ (reply-pair g t p a j i d) e
 
-      back : (s : Side) (k j : ℕ) → g .attacks s ≡ true → Pair t p Left k j → movedBy t p Left k j ∈ successors g t p
-      back Left k j h x = pair-reply Left k j h x
-      back Right k j h x = pair-reply Right j k h (other-pair valid l Left k j x)
+      back : (s : Side) (k j size : ℕ) → g .attacks s ≡ true → Pair t p Left k j size
+          → movedBy t p Left k j size ∈ successors g t p
+      back Left k j size h x = pair-reply Left k j size h x
+      back Right k j size h x = pair-reply Right j k size h (other-pair valid l Left k j size x)

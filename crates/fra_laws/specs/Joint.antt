@@ -1,12 +1,16 @@
--- Which two edges can take one number in a round, whoever attacks.
-use mathlib.Core.Bool.{Bool, true, false}
+-- Which two edges can take one number in a round, whoever attacks, and the size of the history after it.
+use Prim.Native.Nat.{ℕ}
+use mathlib.Core.Bool.{Bool, true, false, cond}
+use mathlib.Core.List.{List, [], _∷_}
 use lib.Dec.{eqb}
 use Rattle.fra.specs.Rules.{other}
 use Rattle.fra.specs.Position.{partner}
+use Rattle.fra.specs.Game.{sizeAfter}
 use Rattle.fra.specs.declared.EdgeKind.{EdgeKind}
 use Rattle.fra.specs.declared.EdgeKind.the-variants.{Known, LocallyFresh, GloballyFresh}
 use Rattle.fra.specs.declared.Position.{Position}
 use Rattle.fra.specs.declared.Side.{Side}
+use Rattle.fra.specs.declared.IdCase.the-variants.{New}
 
 -- an edge of side s and an edge of the other side, of these kinds, can take one number in a round
 unfoldable pub compatible : Position → Side → EdgeKind → EdgeKind → Bool
@@ -23,3 +27,16 @@ compatible p s (LocallyFresh i) (LocallyFresh j) = true
 compatible p s (LocallyFresh i) (GloballyFresh j) = true
 compatible p s (GloballyFresh i) (LocallyFresh j) = true
 compatible p s (GloballyFresh i) (GloballyFresh j) = true
+
+-- the sizes that the history can have after a round in which edges of these kinds take one number, for r registers: a new number
+-- raises it; one seen before, if there is room for such, or one held by a reader leaves it as it is
+unfoldable pub sizesAfter : ℕ → Bool → ℕ → EdgeKind → EdgeKind → List ℕ
+sizesAfter r room size (LocallyFresh i) (LocallyFresh j) = sizeAfter r New size ∷ cond room (size ∷ []) []
+sizesAfter r room size (LocallyFresh i) (GloballyFresh j) = sizeAfter r New size ∷ []
+sizesAfter r room size (GloballyFresh i) (LocallyFresh j) = sizeAfter r New size ∷ []
+sizesAfter r room size (GloballyFresh i) (GloballyFresh j) = sizeAfter r New size ∷ []
+sizesAfter r room size (Known i) (Known j) = size ∷ []
+sizesAfter r room size (Known i) (LocallyFresh j) = size ∷ []
+sizesAfter r room size (Known i) (GloballyFresh j) = size ∷ []
+sizesAfter r room size (LocallyFresh i) (Known j) = size ∷ []
+sizesAfter r room size (GloballyFresh i) (Known j) = size ∷ []

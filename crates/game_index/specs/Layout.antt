@@ -1,4 +1,4 @@
--- Where the parts of an index stand: the left side's bytes, the right side's, the start, the game.
+-- Where the parts of an index stand: the left side's bytes, the right side's, the start and its history, the game.
 use Prim.Native.Nat.{ℕ}
 
 -- ── A side's bytes: "registers, states, start state", then its states, its edges, and the first edge of each code ──
@@ -75,8 +75,19 @@ sideWidth = 2597
 abbrev pub startAt : ℕ
 startAt = 5194
 
+-- behind the start's states its partners and the history's size
+abbrev pub partnersAt : ℕ
+partnersAt = 5196
+
+abbrev pub historyAt : ℕ
+historyAt = 5202
+
+-- 1 where the task states that size
+abbrev pub statedAt : ℕ
+statedAt = 5203
+
 abbrev pub gameAt : ℕ
-gameAt = 5202
+gameAt = 5204
 
 abbrev pub size : ℕ
-size = 5203
+size = 5205

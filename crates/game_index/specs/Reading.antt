@@ -2,6 +2,7 @@
 use Prim.Native.Nat.{ℕ, _+_, _*_}
 use mathlib.Core.List.{List, map}
 use lib.ListN.{getD}
+use lib.Dec.{eqb}
 use Rattle.fra.specs.Lists.{count}
 use Rattle.fra.specs.Model.{kindOf}
 use Rattle.fra.specs.Rules.{Rules, rulesOf, gameOf}
@@ -15,7 +16,7 @@ use Rattle.fra.specs.declared.Side.the-variants.{Left, Right}
 use Rattle.fra.specs.declared.Game.{Game}
 use Rattle.game_index.specs.Layout.{registersAt, beginAt, stateCountAt, edgeCountAt, statesAt, statePlaces, stateWidth}
 use Rattle.game_index.specs.Layout.{edgesAt, edgePlaces, edgeWidth, tagField, kindField, registerField, toField}
-use Rattle.game_index.specs.Layout.{sideWidth, startAt, gameAt}
+use Rattle.game_index.specs.Layout.{sideWidth, startAt, partnersAt, historyAt, statedAt, gameAt}
 
 -- byte i of a side
 abbrev pub sideByte : List ℕ → Side → ℕ → ℕ
@@ -50,17 +51,24 @@ modelIn b s =
       edges = map (edgeIn b s) (count 0 edgePlaces);
     }
 
--- eight bytes: two states, six partners
+-- nine bytes: two states, six partners, the history's size
 abbrev pub startIn : List ℕ → Position
 startIn b =
     record {
       left = getD b startAt 0;
       right = getD b (startAt + 1) 0;
-      partners = map (λ i. getD b (startAt + 2 + i) 0) (count 0 6);
+      partners = map (λ i. getD b (partnersAt + i) 0) (count 0 6);
+      history = getD b historyAt 0;
     }
 
 unfoldable pub taskIn : List ℕ → Task
-taskIn b = record { left = modelIn b Left; right = modelIn b Right; start = startIn b }
+taskIn b =
+    record {
+      left = modelIn b Left;
+      right = modelIn b Right;
+      start = startIn b;
+      «history_stated» = eqb (getD b statedAt 0) 1;
+    }
 
 unfoldable pub gameIn : List ℕ → Game
 gameIn b = gameOf (getD b gameAt 0)

@@ -51,7 +51,7 @@ sideBytes m =
 
 -- the index of a task and a game
 unfoldable pub of : Task → Game → List ℕ
-of t g = sideBytes (t .left) ++ (sideBytes (t .right) ++ (bytes (t .start) ++ (gameNumber g ∷ [])))
+of t g = sideBytes (t .left) ++ (sideBytes (t .right) ++ (bytes (t .start) ++ (flag (t .«history_stated») ∷ gameNumber g ∷ [])))
 
 -- ── Tasks that have an index ──
 

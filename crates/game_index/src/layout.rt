@@ -1,4 +1,4 @@
-// Where the parts of an index stand. The left side's bytes come first, then the right side's, the start's position and the rules.
+// Where the parts of an index stand. The left side's bytes come first, then the right side's, the start and its history, the game.
 // A side's bytes are its counts, its states, its edges, and the first edge of each code, by which a state's edges of a tag and a
 // kind are a range.
 use fra::Model;
@@ -44,9 +44,16 @@ pub const FIRSTS: usize = EDGES + (Model::EDGES as usize) * EDGE;
 
 pub const SIDE: usize = FIRSTS + CODES + 1;
 
-// The start's position, and the game's number.
+// The start's position: its two states, its partners and the history's size.
 pub const START: usize = SIDE * 2;
 
-pub const GAME: usize = START + Position::WIDTH;
+pub const PARTNERS: usize = START + 2;
+
+pub const HISTORY: usize = PARTNERS + (Model::REGISTERS as usize);
+
+// 1 if the task states that size, else 0; and the game's number.
+pub const STATED: usize = START + Position::WIDTH;
+
+pub const GAME: usize = STATED + 1;
 
 pub const SIZE: usize = GAME + 1;

@@ -6,10 +6,12 @@ use fra::Game;
 use fra::Model;
 use fra::Position;
 use fra::Side;
+use game_moves::rounds;
 use game_moves::rounds::Target;
 ghost use Prim.Native.Nat.{_+_, _≤_, _<_};
 ghost use mathlib.Core.Path.{_≡_};
 ghost use Rattle.fra.specs.Model.{setOf, markOf, edgeOf};
+ghost use Rattle.fra.specs.Position.{hasRoom};
 ghost use Rattle.fra.specs.Game.{lostAtOnce};
 ghost use Rattle.game_index.specs.Layout.{codes, sideWidth};
 ghost use Rattle.game_index.specs.Reading.{sideByte, modelIn, startIn, taskIn, gameIn, rulesIn};
@@ -64,7 +66,7 @@ pub fn edge_count(index: &[u8; layout::SIZE], side: Side) -> u8
 pub fn start(index: &[u8; layout::SIZE]) -> Position
     ensures { λ r. ⌜ r ≡ startIn (now (index .entry)) ⌝ }
 {
-    let at = layout::START + 2;
+    let at = layout::PARTNERS;
     let partners = [
         index[at],
         index[at + 1],
@@ -77,6 +79,7 @@ pub fn start(index: &[u8; layout::SIZE]) -> Position
         left: index[layout::START],
         right: index[layout::START + 1],
         partners,
+        history: index[layout::HISTORY],
     }
 }
 
@@ -102,6 +105,15 @@ pub fn mark_of(index: &[u8; layout::SIZE], side: Side, q: u8) -> u8
         side,
         layout::STATES + layout::STATE * (q as usize) + layout::MARK,
     )
+}
+
+// The history has a number that neither reader holds.
+pub fn has_room(index: &[u8; layout::SIZE], p: Position) -> bool
+    ensures { λ r. ⌜ r ≡ hasRoom (taskIn (now (index .entry))) p ⌝ }
+{
+    let left = set_of(index, Side::Left, p.left);
+    let right = set_of(index, Side::Right, p.right);
+    rounds::has_room(p, left, right)
 }
 
 // The edge with this number, or what stands past the edges.

@@ -1,7 +1,7 @@
 -- What stands in the bytes of an index. Assumes nothing.
-use Prim.Native.Nat.{ℕ, suc, _+_, _*_, _≤_, _<_}
+use Prim.Native.Nat.{ℕ, suc, _+_, _-_, _*_, _≤_, _<_}
 use mathlib.Core.Path.{_≡_, refl, _∙_}
-use mathlib.Core.List.{List, _++_}
+use mathlib.Core.List.{List, [], _∷_, _++_}
 use native.Mathlib.Omega.{arith}
 use lib.ListN.{length, getD, List·getD-append}
 use lib.Seq.{getD-append-add}
@@ -13,14 +13,16 @@ use Rattle.fra.specs.declared.Task.{Task}
 use Rattle.fra.specs.declared.Side.{Side}
 use Rattle.fra.specs.declared.Side.the-variants.{Left, Right}
 use Rattle.fra.specs.declared.Game.{Game}
-use Rattle.game_index.specs.Layout.{statesAt, statePlaces, stateWidth, edgesAt, edgePlaces, edgeWidth, codes, firstsAt, sideWidth, startAt, gameAt}
+use Rattle.game_index.specs.Layout.{statesAt, statePlaces, stateWidth, edgesAt, edgePlaces, edgeWidth, codes, firstsAt}
+use Rattle.game_index.specs.Layout.{sideWidth, startAt, partnersAt, historyAt, statedAt, gameAt}
 use Rattle.game_index.specs.Reading.{sideByte}
 use Rattle.game_index.specs.Ranges.{firstEdge}
-use Rattle.game_index.specs.Writing.{stateBytes, edgeEntry, countBytes, sideBytes, of, Sized}
+use Rattle.game_index.specs.Writing.{flag, stateBytes, edgeEntry, countBytes, sideBytes, of, Sized}
 use Rattle.fra_laws.proofs.ByPlace.{places-at}
 use Rattle.game_indexing.proofs.EqualStrings.{strings-at}
 use Rattle.game_indexing.proofs.IndexParts.{statesPart, edgesPart, firstsPart, fromEdges, fromStates, states-length, edges-length}
-use Rattle.game_indexing.proofs.IndexParts.{played, SizedTask, fromStart, fromRight, left-length, right-length, start-length}
+use Rattle.game_indexing.proofs.IndexParts.{SizedTask, fromStated, fromStart, fromRight}
+use Rattle.game_indexing.proofs.IndexParts.{left-length, right-length, start-length}
 
 -- byte i behind n others
 behind : (a l : List ℕ) (n i : ℕ) → length a ≡ n → getD (a ++ l) (n + i) 0 ≡ getD l i 0
@@ -78,8 +80,34 @@ module _ (t : Task) (g : Game) (sized : SizedTask t) where
   side-byte Right i h =
       after-left i ∙ List·getD-append (sideBytes (t .right)) (fromStart t g) 0 i (omega (arith, right-length t g sized))
 
-  pub start-byte : (i : ℕ) → i < 8 → getD (of t g) (startAt + i) 0 ≡ getD (bytes (t .start)) i 0
-  start-byte i h = after-right i ∙ List·getD-append (bytes (t .start)) (played t g) 0 i (omega (arith, start-length t g sized))
+  pub start-byte : (i : ℕ) → startAt + i < statedAt → getD (of t g) (startAt + i) 0 ≡ getD (bytes (t .start)) i 0
+  start-byte i h =
+      after-right i ∙ List·getD-append (bytes (t .start)) (fromStated t g) 0 i (omega (arith, start-length t g sized))
+
+  pub partner-byte : (j : ℕ) → partnersAt + j < historyAt → getD (of t g) (partnersAt + j) 0 ≡ getD (t .start .partners) j 0
+  unfolding bytes
+  partner-byte j h =
+      let place : partnersAt + j ≡ startAt + suc (suc j) = omega arith in
+      rw place
+      (start-byte (suc (suc j)) (omega arith)
+      ∙ List·getD-append (t .start .partners) (t .start .history ∷ []) 0 j (omega (arith, sized .partners)))
+
+  pub history-byte : getD (of t g) historyAt 0 ≡ t .start .history
+  unfolding bytes
+  history-byte =
+      start-byte (historyAt - startAt) (omega arith)
+      ∙ behind (t .start .partners) (t .start .history ∷ []) (historyAt - partnersAt) 0 (sized .partners)
+
+  after-start : (i : ℕ) → getD (of t g) (statedAt + i) 0 ≡ getD (fromStated t g) i 0
+  after-start i =
+      let width = statedAt - startAt in
+      let place : statedAt + i ≡ startAt + (width + i) = omega arith in
+      rw place
+      (after-right (width + i)
+      ∙ behind (bytes (t .start)) (fromStated t g) width i (omega (arith, start-length t g sized)))
+
+  pub stated-byte : getD (of t g) statedAt 0 ≡ flag (t .«history_stated»)
+  stated-byte = after-start 0
 
   pub game-byte : getD (of t g) gameAt 0 ≡ gameNumber g
-  game-byte = after-right 8 ∙ behind (bytes (t .start)) (played t g) 8 0 (omega (arith, start-length t g sized))
+  game-byte = after-start 1

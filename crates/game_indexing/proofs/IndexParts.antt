@@ -15,9 +15,9 @@ use Rattle.fra.specs.declared.Side.{Side}
 use Rattle.fra.specs.declared.Side.the-variants.{Left, Right}
 use Rattle.fra.specs.declared.Game.{Game}
 use Rattle.fra_laws.proofs.Lengths.{flatMap-length}
-use Rattle.game_index.specs.Layout.{statesAt, edgesAt, codes, firstsAt, sideWidth, startAt, gameAt, size}
+use Rattle.game_index.specs.Layout.{statesAt, edgesAt, codes, firstsAt, sideWidth, startAt, statedAt, size}
 use Rattle.game_index.specs.Ranges.{firstEdge}
-use Rattle.game_index.specs.Writing.{stateBytes, edgeEntry, countBytes, sideBytes, of, Sized}
+use Rattle.game_index.specs.Writing.{flag, stateBytes, edgeEntry, countBytes, sideBytes, of, Sized}
 use Rattle.fra_laws.proofs.ByPlace.{places-length}
 use Rattle.game_indexing.proofs.Appended.{sets-behind}
 
@@ -65,7 +65,7 @@ module _ (m : Model) where
         ∙ sets-behind counts (at + statesAt) statesPart fromEdges (at + edgesAt) (omega (arith, states-length))
         ∙ sets-behind old at (countBytes m) fromStates (at + statesAt) refl
 
--- ── The whole: left side, right side, start, game ──
+-- ── The whole: left side, right side, start, whether its history size is stated, game ──
 
 -- the arrays of a task have their declared lengths
 pub record SizedTask (t : Task) : Type 0 where
@@ -73,11 +73,11 @@ pub record SizedTask (t : Task) : Type 0 where
   pub partners : length (t .start .partners) ≡ 6
 
 module _ (t : Task) (g : Game) where
-  abbrev pub played : List ℕ
-  played = gameNumber g ∷ []
+  abbrev pub fromStated : List ℕ
+  fromStated = flag (t .«history_stated») ∷ gameNumber g ∷ []
 
   abbrev pub fromStart : List ℕ
-  fromStart = bytes (t .start) ++ played
+  fromStart = bytes (t .start) ++ fromStated
 
   abbrev pub fromRight : List ℕ
   fromRight = sideBytes (t .right) ++ fromStart
@@ -89,9 +89,9 @@ module _ (t : Task) (g : Game) where
     pub right-length : length (sideBytes (t .right)) ≡ sideWidth
     right-length = side-length (t .right) (sized .sides Right)
 
-    pub start-length : startAt + length (bytes (t .start)) ≡ gameAt
+    pub start-length : startAt + length (bytes (t .start)) ≡ statedAt
     unfolding bytes
-    start-length = omega (arith, sized .partners)
+    start-length = simp length-append (omega (arith, sized .partners))
 
     of-length : length (of t g) ≡ size
     unfolding of
@@ -100,12 +100,12 @@ module _ (t : Task) (g : Game) where
     pub of-written : (old : List ℕ) → length old ≡ size
         → let left = sets old 0 (sideBytes (t .left)) in
         let right = sets left sideWidth (sideBytes (t .right)) in
-        sets (sets right startAt (bytes (t .start))) gameAt played ≡ of t g
+        sets (sets right startAt (bytes (t .start))) statedAt fromStated ≡ of t g
     unfolding of
     of-written old long =
         let left = sets old 0 (sideBytes (t .left)) in
         let right = sets left sideWidth (sideBytes (t .right)) in
-        sets-behind right startAt (bytes (t .start)) played gameAt (omega (arith, start-length))
+        sets-behind right startAt (bytes (t .start)) fromStated statedAt (omega (arith, start-length))
         ∙ sets-behind left sideWidth (sideBytes (t .right)) fromStart startAt (omega (arith, right-length))
         ∙ sets-behind old 0 (sideBytes (t .left)) fromRight sideWidth (omega (arith, left-length))
         ∙ sets-eq (of t g) old 0 (omega (arith, of-length))

@@ -1,10 +1,11 @@
 -- The bytes that are written for a task and a game are an index, and what is read from it is that task and that game. Assumes
 -- nothing.
-use Prim.Native.Nat.{ℕ, suc, _+_, _*_, _≤_, _<_}
+use Prim.Native.Nat.{ℕ, _+_, _*_, _≤_, _<_}
 use mathlib.Core.Path.{_≡_, refl, _∙_, ap₂}
 use mathlib.Core.List.{List}
 use native.Mathlib.Omega.{arith}
 use lib.ListN.{getD}
+use lib.Dec.{eqb}
 use Rattle.fra.specs.Model.{noState, noEdge, setOf, edgeOf, edgeBytes, kindOf}
 use Rattle.fra.specs.Position.{bytes}
 use Rattle.fra.specs.Rules.{modelOf, gameNumber, gameOf}
@@ -14,15 +15,18 @@ use Rattle.fra.specs.declared.Side.{Side}
 use Rattle.fra.specs.declared.Side.the-variants.{Left, Right}
 use Rattle.fra.specs.declared.Game.{Game}
 use Rattle.fra.specs.declared.Game.the-variants.{BothAttack, LeftAttacks}
-use Rattle.game_index.specs.Layout.{statesAt, statePlaces, stateWidth, edgesAt, edgePlaces, edgeWidth, codes, firstsAt, startAt}
+use Rattle.game_index.specs.Layout.{statesAt, statePlaces, stateWidth, edgesAt, edgePlaces, edgeWidth, codes, firstsAt}
+use Rattle.game_index.specs.Layout.{partnersAt, statedAt}
 use Rattle.game_index.specs.Reading.{sideByte, edgeByte, stateIn, edgeIn, modelIn, startIn, taskIn, gameIn}
 use Rattle.game_index.specs.Ranges.{firstEdge}
 use Rattle.game_index.specs.Writing.{stateBytes, edgeEntry, sideBytes, of, Indexable, Index, Indexes}
 use Rattle.fra_laws.proofs.KindNumbers.{kind-of-number}
 use Rattle.fra_laws.proofs.ByPlace.{listed}
 use Rattle.game_indexing.specs.Indexed.{Indexed}
+use Rattle.game_indexing.proofs.Flags.{flag-read}
 use Rattle.game_indexing.proofs.IndexParts.{SizedTask}
-use Rattle.game_indexing.proofs.IndexBytes.{state-byte, edge-byte, first-byte, side-byte, start-byte, game-byte}
+use Rattle.game_indexing.proofs.IndexBytes.{state-byte, edge-byte, first-byte, side-byte}
+use Rattle.game_indexing.proofs.IndexBytes.{start-byte, partner-byte, history-byte, stated-byte, game-byte}
 
 module _ (t : Task) (g : Game) (sized : SizedTask t) where
   -- ── The models ──
@@ -84,26 +88,27 @@ module _ (t : Task) (g : Game) (sized : SizedTask t) where
 
   -- ── The task and the game ──
 
-  partner-at : (j : ℕ) → j < 6 → getD (of t g) (startAt + 2 + j) 0 ≡ getD (t .start .partners) j 0
-  unfolding bytes
-  partner-at j h =
-      let place : startAt + 2 + j ≡ startAt + suc (suc j) = omega arith in
-      rw place (start-byte t g sized (suc (suc j)) (omega arith))
-
   start-in : startIn (of t g) ≡ t .start
   unfolding bytes
   start-in =
-      let partners = listed (λ j. getD (of t g) (startAt + 2 + j) 0) 6 (t .start .partners) 0 (sized .partners) partner-at in
+      let partners =
+      listed (λ j. getD (of t g) (partnersAt + j) 0) 6 (t .start .partners) 0 (sized .partners)
+      (λ j b. partner-byte t g sized j (omega arith)) in
       λ i.
       record {
         left = start-byte t g sized 0 (omega arith) i;
         right = start-byte t g sized 1 (omega arith) i;
         partners = partners i;
+        history = history-byte t g sized i;
       }
 
   task-in : taskIn (of t g) ≡ t
   unfolding taskIn
-  task-in = λ i. record { left = model-in Left i; right = model-in Right i; start = start-in i }
+  task-in =
+      let stated : eqb (getD (of t g) statedAt 0) 1 ≡ t .«history_stated»
+      = rw (stated-byte t g sized) (flag-read (t .«history_stated»)) in
+      λ i.
+      record { left = model-in Left i; right = model-in Right i; start = start-in i; «history_stated» = stated i }
 
   game-in : gameIn (of t g) ≡ g
   unfolding gameIn

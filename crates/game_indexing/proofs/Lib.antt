@@ -2,6 +2,7 @@
 mod AnyFromOne
 mod Appended
 mod EqualStrings
+mod Flags
 mod FirstEdges
 mod IndexParts
 mod IndexBytes

@@ -169,6 +169,7 @@ fn put_start(out: &mut [u8; layout::SIZE], p: Position)
     let a = p.partners;
     put_four(out, layout::START, p.left, p.right, a[0], a[1]);
     put_four(out, layout::START + 4, a[2], a[3], a[4], a[5]);
+    out[layout::HISTORY] = p.history;
 }
 
 // The index of a task and a game.
@@ -180,6 +181,7 @@ pub fn of(t: Task, game: Game) -> [u8; layout::SIZE]
     put_side(&mut out, 0, t.left);
     put_side(&mut out, layout::SIDE, t.right);
     put_start(&mut out, t.start);
+    out[layout::STATED] = t.history_stated as u8;
     out[layout::GAME] = game.number();
     out
 }

@@ -25,9 +25,10 @@ use Rattle.game_moves.specs.AfterRound.{targetOf, movedTo}
 use Rattle.fra_laws.proofs.KeptLists.{keep-append, keep-same, keep-and, keep-map, keep-flatMap, flatMap-keep}
 
 -- the position after a round is read off the two edges' targets
-pub moved-to : (t : Task) (p : Position) (l r : Edge) → movedTo p (targetOf (t .left) l) (targetOf (t .right) r) ≡ moved t p l r
+pub moved-to : (t : Task) (p : Position) (size : ℕ) (l r : Edge)
+    → movedTo p size (targetOf (t .left) l) (targetOf (t .right) r) ≡ moved t p size l r
 unfolding moved movedTo
-moved-to t p l r = refl
+moved-to t p size l r = refl
 
 module _ (g : Rules) (t : Task) (p : Position) where
   -- of what edge number k of side s could name, those that are attacks

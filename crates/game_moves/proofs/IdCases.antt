@@ -10,7 +10,7 @@ use native.Mathlib.Omega.{arith}
 use lib.ListN.{length, getD}
 use Rattle.fra.specs.Lists.{keep, count, least}
 use Rattle.fra.specs.Rules.{other}
-use Rattle.fra.specs.Position.{filled}
+use Rattle.fra.specs.Position.{filled, hasRoom}
 use Rattle.fra.specs.Game.{hasCase, cases}
 use Rattle.fra.specs.declared.IdCase.{IdCase}
 use Rattle.fra.specs.declared.IdCase.the-variants.{Held, Private, Seen, New}
@@ -69,47 +69,47 @@ module _ (r : ℕ) where
 
 -- ── The first from a number on ──
 
-module _ (r others : ℕ) (p : Position) (s : Side) (kind : EdgeKind) (n : ℕ) (long : length (p .partners) ≡ r) where
+module _ (r others : ℕ) (room : Bool) (p : Position) (s : Side) (kind : EdgeKind) (n : ℕ) (long : length (p .partners) ≡ r) where
   -- case number k is one of the edge
   abbrev found : ℕ → Bool
-  found k = hasCaseIn others p s kind (caseAt r k)
+  found k = hasCaseIn others room p s kind (caseAt r k)
 
-  pub case-here : n < r + 3 → found n ≡ true → caseFrom others p s kind n ≡ At (caseAt r n) (n + 1)
+  pub case-here : n < r + 3 → found n ≡ true → caseFrom others room p s kind n ≡ At (caseAt r n) (n + 1)
   unfolding caseFrom caseAnswer
   case-here h e = rw (long, cases-length r, least-here found n (r + 3) h e, add-one)
 
-  pub case-later : n < r + 3 → found n ≡ false → caseFrom others p s kind n ≡ caseFrom others p s kind (n + 1)
+  pub case-later : n < r + 3 → found n ≡ false → caseFrom others room p s kind n ≡ caseFrom others room p s kind (n + 1)
   unfolding caseFrom
   case-later h e = rw (long, cases-length r, least-later found n (r + 3) h e)
 
-  pub case-none : r + 3 ≤ n → caseFrom others p s kind n ≡ NoMore
+  pub case-none : r + 3 ≤ n → caseFrom others room p s kind n ≡ NoMore
   unfolding caseFrom caseAnswer
   case-none h = rw (long, cases-length r, least-end found n (r + 3) h)
 
 -- ── One after another ──
 
-module _ (others : ℕ) (p : Position) (s : Side) (kind : EdgeKind) where
+module _ (others : ℕ) (room : Bool) (p : Position) (s : Side) (kind : EdgeKind) where
   -- case c is the first of them, and those that follow are from number k on
   pub record NextCase (n : ℕ) (c : IdCase) (k : ℕ) : Type 0 where
     pub positive : 1 ≤ k
     pub exists : k ≤ length (p .partners) + 3
     pub numbered : c ≡ caseAt (length (p .partners)) (k - 1)
-    pub first : casesFrom others p s kind n ≡ c ∷ casesFrom others p s kind k
+    pub first : casesFrom others room p s kind n ≡ c ∷ casesFrom others room p s kind k
 
   -- what an answer says of them
   abbrev CasesFrom : ℕ → CaseFound → Type 0
-  CasesFrom n NoMore = casesFrom others p s kind n ≡ []
+  CasesFrom n NoMore = casesFrom others room p s kind n ≡ []
   CasesFrom n (At c k) = NextCase n c k
 
-  cases-from : (n : ℕ) → CasesFrom n (caseFrom others p s kind n)
+  cases-from : (n : ℕ) → CasesFrom n (caseFrom others room p s kind n)
   unfolding caseFrom caseAnswer caseAt
   cases-from n =
       step
-      (least (test (hasCaseIn others p s kind) (cases (length (p .partners))) New) n
+      (least (test (hasCaseIn others room p s kind) (cases (length (p .partners))) New) n
       (length (cases (length (p .partners))) - n))
-      (kept-from (hasCaseIn others p s kind) (cases (length (p .partners))) New n)
+      (kept-from (hasCaseIn others room p s kind) (cases (length (p .partners))) New n)
     where
-      step : (o : Option ℕ) → KeptFrom (hasCaseIn others p s kind) (cases (length (p .partners))) New n o
+      step : (o : Option ℕ) → KeptFrom (hasCaseIn others room p s kind) (cases (length (p .partners))) New n o
           → CasesFrom n (caseAnswer (length (p .partners)) o)
       step none h = h
       step (some j) h =
@@ -121,17 +121,17 @@ module _ (others : ℕ) (p : Position) (s : Side) (kind : EdgeKind) where
             first = h .1;
           }
 
-  pub case-found : (n : ℕ) (c : IdCase) (k : ℕ) → caseFrom others p s kind n ≡ At c k → NextCase n c k
+  pub case-found : (n : ℕ) (c : IdCase) (k : ℕ) → caseFrom others room p s kind n ≡ At c k → NextCase n c k
   case-found n c k e = rw e at (cases-from n)
 
-  pub no-case : (n : ℕ) → caseFrom others p s kind n ≡ NoMore → casesFrom others p s kind n ≡ []
+  pub no-case : (n : ℕ) → caseFrom others room p s kind n ≡ NoMore → casesFrom others room p s kind n ≡ []
   no-case n e = rw e at (cases-from n)
 
 -- ── All of them ──
 
--- where the register set is that of the other side's state, they are the game's
+-- with the register set of the other side's state, and the room that there is, they are the game's
 pub has-case-in : (t : Task) (p : Position) (s : Side) (kind : EdgeKind) (c : IdCase)
-    → hasCaseIn (filled t p (other s)) p s kind c ≡ hasCase t p s kind c
+    → hasCaseIn (filled t p (other s)) (hasRoom t p) p s kind c ≡ hasCase t p s kind c
 unfolding hasCaseIn hasCase
 has-case-in t p s (Known i) Held = refl
 has-case-in t p s (Known i) (Private j) = refl
@@ -147,5 +147,5 @@ has-case-in t p s (GloballyFresh i) Seen = refl
 has-case-in t p s (GloballyFresh i) New = refl
 
 pub all-cases : (t : Task) (p : Position) (s : Side) (kind : EdgeKind)
-    → casesFrom (filled t p (other s)) p s kind 0 ≡ keep (hasCase t p s kind) (cases (length (p .partners)))
+    → casesFrom (filled t p (other s)) (hasRoom t p) p s kind 0 ≡ keep (hasCase t p s kind) (cases (length (p .partners)))
 all-cases t p s kind = keep-same _ _ (cases (length (p .partners))) (λ c m. has-case-in t p s kind c)

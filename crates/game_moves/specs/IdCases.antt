@@ -1,5 +1,5 @@
--- The id cases of an attack by number, and those that an edge has, where the register set of the other side's state is
--- given in place of the task.
+-- The id cases of an attack by number, and those that an edge has, where the register set of the other side's state and whether
+-- the history has room for a number that neither reader holds are given in place of the task.
 use Prim.Native.Nat.{ℕ, suc, _-_}
 use mathlib.Core.Bool.{Bool, not, _&&_}
 use mathlib.Core.List.{List}
@@ -29,11 +29,11 @@ abbrev pub unpartnered : Position → Side → ℕ → ℕ → Bool
 unpartnered p s set j = has set j && eqb (partner p s j) 0
 
 -- the game's `hasCase`
-unfoldable pub hasCaseIn : ℕ → Position → Side → EdgeKind → IdCase → Bool
-hasCaseIn others p s kind Held = not (isFresh kind)
-hasCaseIn others p s kind (Private j) = isLocallyFresh kind && unpartnered p (other s) others j
-hasCaseIn others p s kind Seen = isLocallyFresh kind
-hasCaseIn others p s kind New = isFresh kind
+unfoldable pub hasCaseIn : ℕ → Bool → Position → Side → EdgeKind → IdCase → Bool
+hasCaseIn others room p s kind Held = not (isFresh kind)
+hasCaseIn others room p s kind (Private j) = isLocallyFresh kind && unpartnered p (other s) others j
+hasCaseIn others room p s kind Seen = isLocallyFresh kind && room
+hasCaseIn others room p s kind New = isFresh kind
 
 -- a case number that was found, as the answer
 unfoldable pub caseAnswer : ℕ → Option ℕ → CaseFound
@@ -41,11 +41,11 @@ caseAnswer r none = NoMore
 caseAnswer r (some n) = At (caseAt r n) (suc n)
 
 -- the first case from number n on that the edge has
-unfoldable pub caseFrom : ℕ → Position → Side → EdgeKind → ℕ → CaseFound
-caseFrom others p s kind n =
+unfoldable pub caseFrom : ℕ → Bool → Position → Side → EdgeKind → ℕ → CaseFound
+caseFrom others room p s kind n =
     caseAnswer (length (p .partners))
-    (least (λ k. hasCaseIn others p s kind (caseAt (length (p .partners)) k)) n (length (cases (length (p .partners))) - n))
+    (least (λ k. hasCaseIn others room p s kind (caseAt (length (p .partners)) k)) n (length (cases (length (p .partners))) - n))
 
 -- all from number n on that the edge has, in order
-abbrev pub casesFrom : ℕ → Position → Side → EdgeKind → ℕ → List IdCase
-casesFrom others p s kind n = keep (hasCaseIn others p s kind) (drop n (cases (length (p .partners))))
+abbrev pub casesFrom : ℕ → Bool → Position → Side → EdgeKind → ℕ → List IdCase
+casesFrom others room p s kind n = keep (hasCaseIn others room p s kind) (drop n (cases (length (p .partners))))

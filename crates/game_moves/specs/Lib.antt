@@ -1,4 +1,5 @@
 -- What the functions compute, in terms of the game.
 pub mod AfterRound
+pub mod HistorySizes
 pub mod IdCases
 pub mod AttacksBySide

@@ -38,26 +38,41 @@ fn unpartnered(p: Position, side: Side, set: u8, j: u8) -> bool
     has(set, j) && p.partner(side, j) == 0
 }
 
-// An edge of this kind has the case, where the other side's state has the register set `others`.
-pub fn has_case(p: Position, side: Side, kind: EdgeKind, others: u8, case: IdCase) -> bool
-    ensures { λ r. ⌜ r ≡ hasCaseIn others p side kind case ⌝ }
+// An edge of this kind has the case, where the other side's state has the register set `others` and the history has room for a
+// number that neither reader holds, or none.
+pub fn has_case(
+    p: Position,
+    side: Side,
+    kind: EdgeKind,
+    others: u8,
+    room: bool,
+    case: IdCase,
+) -> bool
+    ensures { λ r. ⌜ r ≡ hasCaseIn others room p side kind case ⌝ }
 {
     match case {
         IdCase::Held => !kind.is_fresh(),
         IdCase::Private(j) => kind.is_locally_fresh() && unpartnered(p, side.other(), others, j),
-        IdCase::Seen => kind.is_locally_fresh(),
+        IdCase::Seen => kind.is_locally_fresh() & room,
         IdCase::New => kind.is_fresh(),
     }
 }
 
 // The first case of the edge from this case number on.
-pub fn next_case(p: Position, side: Side, kind: EdgeKind, others: u8, from: u8) -> CaseFound
-    ensures { λ r. ⌜ r ≡ caseFrom others p side kind from ⌝ }
+pub fn next_case(
+    p: Position,
+    side: Side,
+    kind: EdgeKind,
+    others: u8,
+    room: bool,
+    from: u8,
+) -> CaseFound
+    ensures { λ r. ⌜ r ≡ caseFrom others room p side kind from ⌝ }
 {
     let mut n = from;
     while n < COUNT {
         let case = case_of(n);
-        if has_case(p, side, kind, others, case) {
+        if has_case(p, side, kind, others, room, case) {
             return CaseFound::At(case, n + 1);
         }
         n += 1;

@@ -2,12 +2,13 @@
 use Prim.Native.Nat.{ℕ}
 use mathlib.Core.Path.{_≡_, refl, _∙_}
 use native.Mathlib.Omega.{arith}
+use lib.ListN.{length}
 use borrow.Author.Tests.{lt-ltb}
 use Rattle.fra.specs.Lists.{count}
 use Rattle.fra.specs.Model.{edgeOf}
 use Rattle.fra.specs.Rules.{other, leftOf, rightOf, modelOf}
 use Rattle.fra.specs.Position.{stateOf}
-use Rattle.fra.specs.Game.{attackEdge, replyEdge, isReply, replies, moved, after}
+use Rattle.fra.specs.Game.{attackEdge, replyEdge, isReply, replies, sizeAfter, moved, after}
 use Rattle.fra.specs.declared.Edge.{Edge}
 use Rattle.fra.specs.declared.Model.{Model}
 use Rattle.fra.specs.declared.Position.{Position}
@@ -44,11 +45,11 @@ module _ (t : Task) (p : Position) (a : Attack) where
   -- a reply leads where its target says
   pub after-is : (k : ℕ) → afterReply asked p (targetOf replier (edgeOf replier k)) ≡ after t p a k
   unfolding after afterReply moved movedTo
-  after-is k = step (a .side) (attackEdge t a) (replyEdge t a k)
+  after-is k = step (sizeAfter (length (p .partners)) (a .case) (p .history)) (a .side) (attackEdge t a) (replyEdge t a k)
     where
-      step : (s : Side) (own others : Edge)
-          → movedTo p (leftOf s (targetOf (modelOf t s) own) (targetOf (modelOf t (other s)) others))
+      step : (size : ℕ) (s : Side) (own others : Edge)
+          → movedTo p size (leftOf s (targetOf (modelOf t s) own) (targetOf (modelOf t (other s)) others))
           (rightOf s (targetOf (modelOf t s) own) (targetOf (modelOf t (other s)) others))
-          ≡ moved t p (leftOf s own others) (rightOf s own others)
-      step Left own others = refl
-      step Right own others = refl
+          ≡ moved t p size (leftOf s own others) (rightOf s own others)
+      step size Left own others = refl
+      step size Right own others = refl

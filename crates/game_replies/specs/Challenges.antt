@@ -1,9 +1,10 @@
 -- An attack as its replies see it.
 use mathlib.Core.Bool.{Bool}
+use lib.ListN.{length}
 use Rattle.fra.specs.Model.{registerOf}
 use Rattle.fra.specs.Rules.{other, leftOf, rightOf, modelOf}
 use Rattle.fra.specs.Position.{stateOf, partner}
-use Rattle.fra.specs.Game.{attackEdge, answers}
+use Rattle.fra.specs.Game.{attackEdge, answers, sizeAfter}
 use Rattle.fra.specs.declared.EdgeKind.{EdgeKind}
 use Rattle.fra.specs.declared.Position.{Position}
 use Rattle.fra.specs.declared.Task.{Task}
@@ -34,6 +35,8 @@ inCase c case =
 abbrev pub isAnswer : Challenge → EdgeKind → Bool
 isAnswer c kind = answers (c .partner) (c .case) kind
 
--- the position after a reply that leads there
+-- the position after a reply that leads there: the id case says what becomes of the history's size
 unfoldable pub afterReply : Challenge → Position → Target → Position
-afterReply c p reply = movedTo p (leftOf (c .side) (c .target) reply) (rightOf (c .side) (c .target) reply)
+afterReply c p reply =
+    movedTo p (sizeAfter (length (p .partners)) (c .case) (p .history)) (leftOf (c .side) (c .target) reply)
+    (rightOf (c .side) (c .target) reply)

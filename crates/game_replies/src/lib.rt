@@ -72,9 +72,11 @@ impl Challenge {
     {
         let side = self.side;
         let own = self.target;
+        let case = self.case;
+        let size = case.history_after(p.history);
         match side {
-            Side::Left => rounds::moved(p, own, reply),
-            Side::Right => rounds::moved(p, reply, own),
+            Side::Left => rounds::moved(p, size, own, reply),
+            Side::Right => rounds::moved(p, size, reply, own),
         }
     }
 }

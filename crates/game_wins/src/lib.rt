@@ -136,6 +136,7 @@ fn edge_win(
 {
     let away = side.other();
     let others = game_index::set_of(index, away, p.state(away));
+    let room = game_index::has_room(index, p);
     let e = game_index::edge_at(index, side, k);
     let kind = e.kind;
     let held = IdCase::Held;
@@ -150,7 +151,7 @@ fn edge_win(
     );
     let mut from = 0;
     loop {
-        let found = cases::next_case(p, side, kind, others, from);
+        let found = cases::next_case(p, side, kind, others, room, from);
         let CaseFound::At(case, next) = found else {
             return Win::Nobody;
         };
@@ -161,8 +162,9 @@ fn edge_win(
                 case,
             });
         }
-        // A number seen before has no reply that a new one has not: where the one does not win, the other does not.
-        if next == cases::NEW {
+        // A number seen before has no reply that a new one has not. At the greatest size of the history both lead to the same
+        // positions: where the one does not win, the other does not.
+        if (next == cases::NEW) & (Position::MOST_SEEN <= p.history) {
             return Win::Nobody;
         }
         from = next;

@@ -4,7 +4,7 @@ use Prim.Native.Nat.{ℕ, _+_, _*_, _/_, _^_, _<_}
 use mathlib.Core.Path.{_≡_, refl, sym, ap, ap₂}
 use mathlib.Core.Logic.{⊎-elim}
 use mathlib.Core.Bool.{Bool, true, false, _&&_, false≢true}
-use mathlib.Core.List.{List, [], _∷_}
+use mathlib.Core.List.{List, [], _∷_, _++_}
 use native.Mathlib.Omega.{arith}
 use native.Mathlib.Nat.{mul-assoc, mul-one, div-one, pow-zero, pow-suc, pow-succ', div-div-eq-div-mul}
 use lib.ListN.{length}
@@ -61,6 +61,12 @@ module _ (base : ℕ) where
       let k = eqb-true d e (and-left (eqb d e) (below ds es) r) in
       rw k (value-below (x * base + e) ds es (omega arith) (b .1) (c .1) (and-right (eqb d e) (below ds es) r)))
       (or-cases (ltb d e) (eqb d e && below ds es) h)
+
+  -- one digit more at the end
+  pub value-snoc : (before : ℕ) (ds : List ℕ) (d : ℕ) → value base before (ds ++ (d ∷ [])) ≡ value base before ds * base + d
+  unfolding value
+  value-snoc before [] d = refl
+  value-snoc before (e ∷ ds) d = value-snoc (before * base + e) ds d
 
   -- what stands before a string is left when its places are divided away
   pub value-div : (before : ℕ) (ds : List ℕ) → Below base ds → value base before ds / base ^ length ds ≡ before

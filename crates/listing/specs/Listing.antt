@@ -1,15 +1,16 @@
 -- Records of positions in bytes.
 use Prim.Native.Nat.{ℕ, _+_, _*_, _≤_, _<_}
 use mathlib.Core.List.{List, map}
-use lib.ListN.{length, take, drop}
+use lib.ListN.{length, getD, take, drop}
 use Rattle.fra.specs.Lists.{count}
 use Rattle.fra.specs.Position.{Rising}
 use Rattle.fra.specs.declared.Position.{Position}
 use Rattle.outcome.specs.Bytes.{wordAt}
 use Rattle.outcome.specs.Check.{positionOf}
-use Rattle.listing.specs.Widths.{wordWidth, positionWidth, entryWidth, entryRounds, keptWidth, lostWidth, lostRounds, recordPosition}
+use Rattle.listing.specs.Widths.{wordWidth, positionWidth, historyPlace, entryWidth, entryRounds, keptWidth, lostWidth, lostRounds, recordPosition}
 use Rattle.listing.specs.Digits.{value}
 use Rattle.listing.specs.declared.Listing.{Listing}
+use Rattle.listing.specs.declared.Number.{Number}
 
 -- the first n entries of the table
 abbrev pub ofTable : ℕ → Listing
@@ -46,9 +47,19 @@ pub record Searchable (y : Listing) (l : List ℕ) : Type 0 where
   pub fitting : Fitting y l
   pub rising : Rising (positionsIn y l)
 
--- the number of the eight bytes of record i's position
+-- ── The numbers of positions' bytes, which order them ──
+
+-- the number of the nine bytes that stand first, in two parts: the number of all but the last one, and the last one
+unfoldable pub numberIn : List ℕ → Number
+numberIn l = record { first = value 256 0 (take historyPlace l); last = getD l historyPlace 0 }
+
+-- such a number as one
+abbrev pub whole : Number → ℕ
+whole n = n .first * 256 + n .last
+
+-- the number of the bytes of record i's position
 abbrev pub numberAt : Listing → List ℕ → ℕ → ℕ
-numberAt y l i = value 256 0 (take positionWidth (drop (i * y .width + y .position) l))
+numberAt y l i = whole (numberIn (drop (i * y .width + y .position) l))
 
 -- the records before place k have positions of smaller numbers than the sought one, and those from there on have not
 pub record Bound (y : Listing) (l : List ℕ) (sought k : ℕ) : Type 0 where

@@ -1,31 +1,35 @@
--- The widths of what is written in bytes, and where fields stand (01, "Verdict, table, certificate").
+-- The widths of what is written in bytes, and where fields stand (01, "Verdict, table, certificate"; 02, ticket 2).
 use Prim.Native.Nat.{ℕ}
 
 -- "four bytes, high byte first"
 abbrev pub wordWidth : ℕ
 wordWidth = 4
 
--- "eight bytes, left state first"
+-- "eight bytes, left state first"; "A position gains a ninth byte, the history size"
 abbrev pub positionWidth : ℕ
-positionWidth = 8
+positionWidth = 9
 
--- "12 bytes an entry: position, then rounds"
+-- which stands last
+abbrev pub historyPlace : ℕ
+historyPlace = 8
+
+-- "Table entries become 13 bytes": "position, then rounds"
 abbrev pub entryWidth : ℕ
-entryWidth = 12
+entryWidth = 13
 
 abbrev pub entryRounds : ℕ
-entryRounds = 8
+entryRounds = 9
 
--- "kind 16, position, 9 bytes each"
+-- "certificate records 10 and 17": "kind 16, position"
 abbrev pub keptWidth : ℕ
-keptWidth = 9
+keptWidth = 10
 
--- "kind 17, position, side, edge, case, rounds (..), 16 bytes each"
+-- "kind 17, position, side, edge, case, rounds"
 abbrev pub lostWidth : ℕ
-lostWidth = 16
+lostWidth = 17
 
 abbrev pub lostRounds : ℕ
-lostRounds = 12
+lostRounds = 13
 
 -- a record's position follows its kind
 abbrev pub recordPosition : ℕ

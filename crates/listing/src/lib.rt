@@ -7,14 +7,14 @@ use fra::Position;
 use outcome::layout;
 ghost use Prim.Native.Nat.{_+_, _≤_, _<_};
 ghost use mathlib.Core.Path.{_≡_};
-ghost use lib.ListN.{length, take, drop};
+ghost use lib.ListN.{length, drop};
+ghost use lib.Dec.{ltb, eqb};
 ghost use lib.Seq.{sets};
 ghost use Rattle.fra.specs.Position.{bytes, before};
 ghost use Rattle.outcome.specs.Bytes.{wordAt};
 ghost use Rattle.outcome.specs.Check.{positionOf};
 ghost use Rattle.listing.specs.Widths.{positionWidth};
-ghost use Rattle.listing.specs.Digits.{value};
-ghost use Rattle.listing.specs.Listing.{ofTable, ofKept, ofLost, positionAt, roundsAt, positionsIn, Fitting, Searchable, Bound};
+ghost use Rattle.listing.specs.Listing.{ofTable, ofKept, ofLost, positionAt, roundsAt, positionsIn, numberIn, whole, Fitting, Searchable, Bound};
 ghost use Rattle.listing.specs.Lookup.{placeOf};
 
 pub mod words;
@@ -72,7 +72,10 @@ pub enum Place {
     Nowhere,
 }
 
-// The position whose eight bytes start here.
+// Where the history's size stands in a position's bytes.
+const HISTORY: usize = Position::WIDTH - 1;
+
+// The position whose bytes start here.
 fn position_from(list: &[u8], at: usize) -> Position
     requires { ⌜ at + positionWidth ≤ length (now list) ⌝ }
     ensures { λ r. ⌜ r ≡ positionOf 6 (drop at (now (list .entry))) ⌝ }
@@ -89,6 +92,7 @@ fn position_from(list: &[u8], at: usize) -> Position
         left: list[at],
         right: list[at + 1],
         partners,
+        history: list[at + HISTORY],
     }
 }
 
@@ -108,19 +112,60 @@ pub fn rounds_at(list: &[u8], records: Listing, i: usize) -> u32
     word_at(list, i * records.width + records.rounds)
 }
 
-// The number of eight bytes from a place on, high byte first.
-fn number_at(list: &[u8], at: usize) -> u64
+// The number of a position's bytes, high byte first: it has more bits than a u64, so the last byte stands apart.
+struct Number {
+    first: u64,
+    last: u8,
+}
+
+impl Number {
+    fn of(p: Position) -> Self
+        ensures { λ r. ⌜ r ≡ numberIn (bytes p) ⌝ }
+    {
+        Number {
+            first: (high(p) as u64) * 4294967296 + (low(p) as u64),
+            last: p.history,
+        }
+    }
+
+    fn below(self, other: Number) -> bool
+        ensures { λ r. ⌜ r ≡ ltb (whole self) (whole other) ⌝ }
+    {
+        if self.first == other.first {
+            self.last < other.last
+        } else {
+            self.first < other.first
+        }
+    }
+}
+
+// The first part of the number of the position whose bytes start here.
+fn first_at(list: &[u8], at: usize) -> u64
     requires { ⌜ at + positionWidth ≤ length (now list) ⌝ }
-    ensures { λ r. ⌜ r ≡ value 256 0 (take positionWidth (drop at (now (list .entry)))) ⌝ }
+    ensures { λ r. ⌜ r ≡ numberIn (drop at (now (list .entry))) .first ⌝ }
 {
     (word_at(list, at) as u64) * 4294967296 + (word_at(list, at + layout::WORD) as u64)
 }
 
-// The number of a position's bytes.
-fn number(p: Position) -> u64
-    ensures { λ r. ⌜ r ≡ value 256 0 (bytes p) ⌝ }
+// The position whose bytes start here has a smaller number. Most steps of a search do not read its last byte.
+fn below_at(list: &[u8], at: usize, other: Number) -> bool
+    requires { ⌜ at + positionWidth ≤ length (now list) ⌝ }
+    ensures { λ r. ⌜ r ≡ ltb (whole (numberIn (drop at (now (list .entry))))) (whole other) ⌝ }
 {
-    (high(p) as u64) * 4294967296 + (low(p) as u64)
+    let first = first_at(list, at);
+    if first == other.first {
+        list[at + HISTORY] < other.last
+    } else {
+        first < other.first
+    }
+}
+
+// The position whose bytes start here has this number.
+fn equals_at(list: &[u8], at: usize, other: Number) -> bool
+    requires { ⌜ at + positionWidth ≤ length (now list) ⌝ }
+    ensures { λ r. ⌜ r ≡ eqb (whole (numberIn (drop at (now (list .entry))))) (whole other) ⌝ }
+{
+    (first_at(list, at) == other.first) & (list[at + HISTORY] == other.last)
 }
 
 // The first word of a position's bytes.
@@ -146,25 +191,26 @@ pub fn put_position(list: &mut [u8], at: usize, p: Position)
 {
     put_word(list, at, high(p));
     put_word(list, at + layout::WORD, low(p));
+    list[at + HISTORY] = p.history;
 }
 
 // The order of positions by their bytes.
 pub fn before(p: Position, q: Position) -> bool
     ensures { λ r. ⌜ r ≡ before p q ⌝ }
 {
-    number(p) < number(q)
+    Number::of(p).below(Number::of(q))
 }
 
 // The first record whose position's number is not below the sought one.
-fn lower_bound(list: &[u8], records: Listing, sought: u64) -> usize
+fn lower_bound(list: &[u8], records: Listing, sought: Number) -> usize
     requires { ⌜ Searchable records (now list) ⌝ }
-    ensures { λ r. ⌜ Bound records (now (list .entry)) sought r ⌝ }
+    ensures { λ r. ⌜ Bound records (now (list .entry)) (whole sought) r ⌝ }
 {
     let mut low: usize = 0;
     let mut high = records.count;
     while low < high {
         let middle = low + (high - low) / 2;
-        if number_at(list, middle * records.width + records.position) < sought {
+        if below_at(list, middle * records.width + records.position, sought) {
             low = middle + 1;
         } else {
             high = middle;
@@ -178,13 +224,13 @@ pub fn find(list: &[u8], records: Listing, p: Position) -> Place
     requires { ⌜ Searchable records (now list) ⌝ }
     ensures { λ r. ⌜ r ≡ placeOf p (positionsIn records (now (list .entry))) ⌝ }
 {
-    let sought = number(p);
+    let sought = Number::of(p);
     let at = lower_bound(list, records, sought);
     if records.count <= at {
         return Place::Nowhere;
     }
-    if number_at(list, at * records.width + records.position) != sought {
-        return Place::Nowhere;
+    if equals_at(list, at * records.width + records.position, sought) {
+        return Place::At(at);
     }
-    Place::At(at)
+    Place::Nowhere
 }

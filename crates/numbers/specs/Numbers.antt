@@ -59,13 +59,15 @@ IsPair t zero j = ⊥
 IsPair t (suc k) j = getD (t .start .partners) k 0 ≡ j
 
 -- "An opening is a setting in the two start states. There, left register i and right register j hold the same number exactly
--- if i, j is a pair of the task, and the history has at least 13 numbers": 2r + 1 for r registers.
+-- if i, j is a pair of the task". 02, ticket 2: "the history of an opening now has exactly the stated size, or at least 13 numbers
+-- where 13 is stated": 2r + 1 for r registers.
 pub record Opening (r : ℕ) (t : Task) (s : Setting) : Type 0 where
   pub setting : IsSetting t s
   pub start-left : s .left .state ≡ t .left .start
   pub start-right : s .right .state ≡ t .right .start
   pub shared : (i j n m : ℕ) → Holds (t .left) (s .left) i n → Holds (t .right) (s .right) j m → (n ≡ m) ↔ IsPair t i j
-  pub seen-before : 2 * r + 1 ≤ length (s .history)
+  pub exact : t .start .history < 2 * r + 1 → length (s .history) ≡ t .start .history
+  pub at-least : t .start .history ≡ 2 * r + 1 → 2 * r + 1 ≤ length (s .history)
 
 -- ── Rounds ──
 

@@ -50,7 +50,7 @@ module _ (g : Rules) (r : ℕ) (t : Task) (v : Valid r t) where
 
           after-round : (k : ℕ) → Reply g t s c k
               → Forced g t n (afterReply g t s c k) ↔ (lostWithin g t n (after t p a k) ≡ true)
-          after-round k q = agree (afterReply g t s c k) (after t p a k) (round-over r t v s p o g c d k q)
+          after-round k q = agree (afterReply g t s c k) (after t p a k) (round-over r t v s p o g c d chosen k q)
 
       to : Forced g t (suc n) s → (lostWithin g t n p ≡ true) ⊎ Winnable g t n p
       to (inl f) = inl (agree s p o .0 f)

@@ -1,12 +1,11 @@
 -- At a setting that stands over a position, the numbers that a chooser can name and the id cases of the position's attacks
 -- agree: each number that an edge takes stands in an id case of that edge, and each id case has such a number. Assumes
 -- nothing.
-use Prim.Native.Nat.{ℕ, zero, suc, _≤_, _<_}
+use Prim.Native.Nat.{ℕ, zero, suc}
 use mathlib.Core.Path.{_≡_, refl, sym, _∙_}
 use mathlib.Core.Bool.{Bool, true, false, _&&_, false≢true}
-use mathlib.Core.List.{List, _++_, map, Memᴰ·append-left, Memᴰ·append-right, Memᴰ·map, Memᴰ·cast}
 use native.Mathlib.Omega.{arith}
-use lib.ListN.{length, length-append, length-map}
+use lib.ListN.{length}
 use lib.Dec.{eqb}
 use borrow.Author.Tests.{eqb-true, eq-eqb}
 use Rattle.fra.specs.Lists.{_∈_, any, count}
@@ -27,13 +26,13 @@ use Rattle.fra.specs.declared.IdCase.{IdCase}
 use Rattle.fra.specs.declared.IdCase.the-variants.{Held, Private, Seen, New}
 use Rattle.fra_laws.proofs.Tests.{and-left, and-right, and-intro}
 use Rattle.fra_laws.proofs.Lists.{any-witness, any-none, any-equal, none-equal, count-intro}
-use Rattle.fra_laws.proofs.Lengths.{count-length}
 use Rattle.fra_laws.proofs.AttackMembers.{Within, AttackAt, attack-at, is-attack}
-use Rattle.fra_laws.proofs.Legal.{valid-side, registers-exist}
+use Rattle.fra_laws.proofs.Legal.{valid-side}
 use Rattle.fra_laws.proofs.Pairs.{other-other}
 use Rattle.numbers.specs.Numbers.{Setting, readerOf, Takes, Choice}
-use Rattle.numbers_laws.proofs.FiniteSets.{outside, pigeonhole}
-use Rattle.numbers_laws.proofs.Over.{HoldsAt, Lacks, Over, placed, unseen-lacks, partner-holds, not-unpartnered}
+use Rattle.numbers_laws.proofs.FiniteSets.{outside}
+use Rattle.numbers_laws.proofs.Over.{HoldsAt, Lacks, Over, registers, unseen-lacks, partner-holds, not-unpartnered}
+use Rattle.numbers_laws.proofs.Room.{room-iff-free}
 
 -- side σ finds the number n in its register j, in the history and in no register of its own, or nowhere
 abbrev pub Found : Task → Setting → Side → ℕ → IdCase → Type 0
@@ -59,13 +58,8 @@ abbrev pub Chosen : (g : Rules) (t : Task) (s : Setting) → Choice g t s → Id
 Chosen g t s c d = InCase t s (c .side) (registerOf (edgeOf (modelOf t (c .side)) (c .edge) .kind)) (c .number) d
 
 module _ (r : ℕ) (t : Task) (v : Valid r t) (s : Setting) (p : Position) (o : Over r t s p) where
-  -- a register that holds a number is one of the r
-  registers : (σ : Side) (i n : ℕ) → HoldsAt t s σ i n → (1 ≤ i) × (i ≤ r)
-  registers σ i n a =
-      registers-exist (valid-side v σ) (readerOf s σ .state) i (placed t s (o .setting) σ .exists) (a .filled)
-
   register-counted : (σ : Side) (i n : ℕ) → HoldsAt t s σ i n → i ∈ count 1 r
-  register-counted σ i n a = let (b, c) = registers σ i n a in count-intro 1 r i b (omega arith)
+  register-counted σ i n a = let (b, c) = registers r t s p o v σ i n a in count-intro 1 r i b (omega arith)
 
   -- ── Each number stands in a case ──
 
@@ -98,6 +92,13 @@ module _ (r : ℕ) (t : Task) (v : Valid r t) (s : Setting) (p : Position) (o : 
       step zero e = refl
       step (suc x) e = absurd (l (suc x) (rw (other-other σ) at (partner-holds r t s p o (other σ) j n x a e)))
 
+  -- a number that one side and the other do not hold
+  neither : (σ : Side) (n : ℕ) → Lacks t s σ n → Lacks t s (other σ) n → (ρ : Side) → Lacks t s ρ n
+  neither Left n a b Left = a
+  neither Left n a b Right = b
+  neither Right n a b Left = b
+  neither Right n a b Right = a
+
   -- a number that an edge takes stands in an id case of that edge
   case-of-number : (σ : Side) (κ : EdgeKind) (n : ℕ) → Takes (modelOf t σ) (readerOf s σ) (s .history) κ n
       → (c : IdCase) × InCase t s σ (registerOf κ) n c × (hasCase t p σ κ c ≡ true)
@@ -111,38 +112,18 @@ module _ (r : ℕ) (t : Task) (v : Valid r t) (s : Setting) (p : Position) (o : 
       step (Private j) f =
           let filled : has (filled t p (other σ)) j ≡ true = rw (o .states (other σ)) (f .filled) in
           (Private j, (h, f), and-intro _ _ filled (eq-eqb (partner p (other σ) j) 0 (unpartnered σ j n f h)))
-      step Seen f = (Seen, (h, f), refl)
+      step Seen f = (Seen, (h, f), room-iff-free r t v s p o .1 (n, (f .1, neither σ n h (f .0))))
       step New f = (New, (h, f), refl)
   case-of-number σ (GloballyFresh i) n h = (New, (unseen-lacks r t s p o σ n h, h), refl)
 
   -- and the register of that case, if it has one, exists
   case-within : (σ : Side) (i n : ℕ) (c : IdCase) → InCase t s σ i n c → Within r c
   case-within σ i n Held a = tt
-  case-within σ i n (Private j) a = registers (other σ) j n (a .1)
+  case-within σ i n (Private j) a = registers r t s p o v (other σ) j n (a .1)
   case-within σ i n Seen a = tt
   case-within σ i n New a = tt
 
   -- ── Each case has a number ──
-
-  -- some number of the history is held by neither side
-  seen-number : (n : ℕ) × (n ∈ s .history) × ((σ : Side) → Lacks t s σ n)
-  seen-number = (w .0, w .1, lacks)
-    where
-      held : Side → List ℕ
-      held σ = map (readerOf s σ .number) (count 1 r)
-
-      long : length (held Left ++ held Right) < length (s .history)
-      long = simp (length-append, length-map, count-length) (omega (arith, o .seen-before))
-
-      w : (n : ℕ) × (n ∈ s .history) × (n ∈ held Left ++ held Right → ⊥)
-      w = pigeonhole (s .history) (held Left ++ held Right) (o .setting .history) long
-
-      is-held : (σ : Side) (i n : ℕ) → HoldsAt t s σ i n → n ∈ held σ
-      is-held σ i n a = Memᴰ·cast (sym (a .holds)) (Memᴰ·map (readerOf s σ .number) (register-counted σ i n a))
-
-      lacks : (σ : Side) → Lacks t s σ (w .0)
-      lacks Left i a = w .2 (Memᴰ·append-left (held Right) (is-held Left i (w .0) a))
-      lacks Right i a = w .2 (Memᴰ·append-right (held Left) (is-held Right i (w .0) a))
 
   -- the number of a register without partner is held by one side only
   private-number : (σ : Side) (j : ℕ) → (has (filled t p (other σ)) j && eqb (partner p (other σ) j) 0) ≡ true
@@ -171,7 +152,7 @@ module _ (r : ℕ) (t : Task) (v : Valid r t) (s : Setting) (p : Position) (o : 
       let (holds, lacks) = private-number σ j h in
       (readerOf s (other σ) .number j, (lacks, holds), lacks)
   number-of-case σ (LocallyFresh i) to Seen rule h =
-      let (n, seen, lacks) = seen-number in (n, (lacks σ, (lacks (other σ), seen)), lacks σ)
+      let (n, (seen, lacks)) = room-iff-free r t v s p o .0 h in (n, (lacks σ, (lacks (other σ), seen)), lacks σ)
   number-of-case σ (LocallyFresh i) to New rule h =
       let (n, unseen) = outside (s .history) in
       let lacks = unseen-lacks r t s p o σ n unseen in
@@ -208,7 +189,7 @@ module _ (r : ℕ) (t : Task) (v : Valid r t) (s : Setting) (p : Position) (o : 
           }
 
       within : Within (length (p .partners)) (w .0)
-      within = rw (o .size) (case-within σ (registerOf kind) (c .number) (w .0) (w .1))
+      within = rw (o .long) (case-within σ (registerOf kind) (c .number) (w .0) (w .1))
 
   -- each attack is a choice, of a number in its case
   pub choice-of-attack : (g : Rules) (a : Attack) → a ∈ attacks g t p

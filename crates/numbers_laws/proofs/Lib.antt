@@ -1,5 +1,7 @@
 pub mod FiniteSets
+pub mod HistorySizes
 pub mod Over
+pub mod Room
 pub mod Choices
 pub mod NumberReplies
 pub mod SettingsAfterRounds

@@ -1,21 +1,25 @@
 -- An opening stands over the start position, and every task has an opening. Assumes nothing.
-use Prim.Native.Nat.{ℕ, zero, suc, _+_, _*_, _≤_, _<_}
-use mathlib.Core.Path.{_≡_, refl, sym, _∙_}
-use mathlib.Core.Logic.{_⊎_, inl, inr, _↔_, Iff·symm, Iff·trans}
-use mathlib.Core.List.{List}
+use Prim.Native.Nat.{ℕ, zero, suc, _+_, _*_, _≤_}
+use mathlib.Core.Path.{_≡_, refl, sym, _∙_, ap}
+use mathlib.Core.Logic.{_↔_, Iff·symm, Iff·trans}
+use mathlib.Core.Bool.{true}
+use mathlib.Core.List.{List, map, Memᴰ·cast, Memᴰ·map}
 use native.Mathlib.Omega.{arith}
-use Rattle.fra.specs.Lists.{_∈_, count}
+use lib.ListN.{length, length-map}
+use Rattle.fra.specs.Lists.{_∈_}
+use Rattle.fra.specs.Registers.{has}
 use Rattle.fra.specs.Rules.{modelOf}
-use Rattle.fra.specs.Position.{stateOf, rightPartner, leftPartner}
+use Rattle.fra.specs.Position.{stateOf, filled, rightPartner, leftPartner, partner}
 use Rattle.fra.specs.Valid.{Valid}
 use Rattle.fra.specs.declared.Task.{Task}
 use Rattle.fra.specs.declared.Side.{Side}
 use Rattle.fra.specs.declared.Side.the-variants.{Left, Right}
-use Rattle.fra_laws.proofs.Lists.{count-intro}
-use Rattle.fra_laws.proofs.Lengths.{count-length, count-unique}
-use Rattle.fra_laws.proofs.Registers.{left-partner-sound, left-partner-exists, partner-place}
-use Rattle.fra_laws.proofs.Legal.{registers-exist, Legal, legal-facts, valid-side}
-use Rattle.numbers.specs.Numbers.{Setting, readerOf, Placed, IsPair, Opening}
+use Rattle.fra_laws.proofs.Registers.{has-positive}
+use Rattle.fra_laws.proofs.HeldNumbers.{standing, standing-length}
+use Rattle.fra_laws.proofs.HeldAfterRounds.{standIn, stand-in-stands, stand-in-apart, stand-in-shared}
+use Rattle.fra_laws.proofs.Legal.{valid-side, registers-exist, Legal, legal-facts, partner-mutual}
+use Rattle.numbers.specs.Numbers.{Reader, Holds, Setting, readerOf, Placed, IsPair, Opening}
+use Rattle.numbers_laws.proofs.FiniteSets.{set-around}
 use Rattle.numbers_laws.proofs.Over.{HoldsAt, Shared, Over}
 
 -- the partners of a task's start: its pairs
@@ -27,6 +31,18 @@ unfolding rightPartner
 pair-partner t zero j = (λ h. absurd h, λ e. absurd (omega arith))
 pair-partner t (suc i) j = (λ e. e, λ e. e)
 
+-- a number for each register: even ones for the left side, odd ones for the right
+numberOf : Side × ℕ → ℕ
+numberOf (Left, i) = 2 * i
+numberOf (Right, j) = 2 * j + 1
+
+numbers-differ : (x y : Side × ℕ) → numberOf x ≡ numberOf y → x ≡ y
+unfolding numberOf
+numbers-differ (Left, i) (Left, j) e = ap (λ (k : ℕ). (Left, k)) (omega arith)
+numbers-differ (Left, i) (Right, j) e = absurd (omega arith)
+numbers-differ (Right, i) (Left, j) e = absurd (omega arith)
+numbers-differ (Right, i) (Right, j) e = ap (λ (k : ℕ). (Right, k)) (omega arith)
+
 module _ (r : ℕ) (t : Task) (v : Valid r t) where
   start-legal : Legal r t (t .start)
   start-legal = legal-facts r t (t .start) (v .start-legal)
@@ -37,10 +53,10 @@ module _ (r : ℕ) (t : Task) (v : Valid r t) where
   opening-over s o =
       record {
         setting = o .setting;
-        seen-before = o .seen-before;
         states = states;
-        size = start-legal .long;
+        long = start-legal .long;
         shared = λ i j. (to i j, λ (n, a, b). pair-partner t i j .0 (o .shared i (suc j) n n a b .0 refl));
+        sized = record { most = start-legal .most; exact = o .exact; at-least = o .at-least };
       }
     where
       states : (σ : Side) → stateOf (t .start) σ ≡ readerOf s σ .state
@@ -64,109 +80,89 @@ module _ (r : ℕ) (t : Task) (v : Valid r t) where
 
   -- ── Every valid task has an opening ──
 
-  -- the number of right register j whose left partner is x: the partner's number, or one that no left register has
-  rightNumber : ℕ → ℕ → ℕ
-  rightNumber j zero = r + j
-  rightNumber j (suc k) = suc k
+  -- a register has the number of the register that stands for it
+  number : Side → ℕ → ℕ
+  number σ i = numberOf (standIn (pairs t) σ i)
 
-  -- left register i holds the number i
-  opening : Setting
-  opening =
+  -- two registers of a side have two numbers
+  number-apart : (σ : Side) (i j : ℕ) → number σ i ≡ number σ j → i ≡ j
+  unfolding number
+  number-apart Left i j e = ap (λ (x : Side × ℕ). x .1) (numbers-differ (Left, i) (Left, j) e)
+  number-apart Right i j e = stand-in-apart (start-legal .matches) i j (numbers-differ _ _ e)
+
+  -- a left and a right register have the same number exactly if they are partners
+  number-shared : (i j : ℕ) → (number Left i ≡ number Right (suc j)) ↔ (rightPartner (pairs t) i ≡ suc j)
+  unfolding number partner rightPartner
+  number-shared i j = (
+    λ e. stand-in-shared (start-legal .matches) i (suc j) (omega arith) (numbers-differ _ _ e),
+    back i,
+  )
+    where
+      back : (i : ℕ) → rightPartner (pairs t) i ≡ suc j → number Left i ≡ number Right (suc j)
+      back zero e = absurd (omega arith)
+      back (suc i) e =
+          let left : leftPartner 1 (pairs t) (suc j) ≡ suc i = partner-mutual start-legal Left (suc i) (suc j) (omega arith) e in
+          rw left
+
+  -- the numbers of the registers that stand for numbers
+  numbers : List ℕ
+  numbers = map numberOf (standing (filled t (t .start) Left) (filled t (t .start) Right) (pairs t))
+
+  numbers-fit : length numbers ≤ t .start .history
+  unfolding numbers
+  numbers-fit =
+      rw (length-map, standing-length (filled t (t .start) Left) (filled t (t .start) Right) (pairs t)) (start-legal .least)
+
+  -- each register of a side's set has one of them
+  number-listed : (σ : Side) (i : ℕ) → has (filled t (t .start) σ) i ≡ true → number σ i ∈ numbers
+  unfolding numbers number
+  number-listed σ i h = Memᴰ·map numberOf (stands σ h)
+    where
+      within : i ≤ length (pairs t)
+      within =
+          rw (start-legal .long) (registers-exist (valid-side v σ) (stateOf (t .start) σ) i (start-legal .exists σ) h .1)
+
+      stands : (ρ : Side) → has (filled t (t .start) ρ) i ≡ true
+          → standIn (pairs t) ρ i ∈ standing (filled t (t .start) Left) (filled t (t .start) Right) (pairs t)
+      stands Left h = stand-in-stands (start-legal .matches) Left i h within
+      stands Right h = stand-in-stands (start-legal .matches) Right i h within
+
+  reader : Side → Reader
+  reader σ = record { state = stateOf (t .start) σ; number = number σ }
+
+  -- with any history that has all these numbers
+  reader-placed : (σ : Side) (history : List ℕ) → ((n : ℕ) → n ∈ numbers → n ∈ history)
+      → Placed (modelOf t σ) (reader σ) history
+  unfolding reader
+  reader-placed σ history inside =
       record {
-        left = record { state = t .left .start; number = λ i. i };
-        right = record { state = t .right .start; number = λ j. rightNumber j (leftPartner 1 (pairs t) j) };
-        history = count 0 (2 * r + 1);
+        exists = start-legal .exists σ;
+        distinct = λ i j n a b. number-apart σ i j (a .holds ∙ sym (b .holds));
+        seen = λ i n a. inside n (Memᴰ·cast (sym (a .holds)) (number-listed σ i (a .filled)));
       }
 
-  registers-start : (σ : Side) (i n : ℕ) → HoldsAt t opening σ i n → (1 ≤ i) × (i ≤ r)
-  unfolding opening
-  registers-start σ i n a = registers-exist (valid-side v σ) (readerOf opening σ .state) i (exists σ) (a .filled)
-    where
-      exists : (σ : Side) → readerOf opening σ .state < modelOf t σ .«state_count»
-      exists Left = v .left .start
-      exists Right = v .right .start
-
-  -- right register j has a number of its own, or that of the left register whose partner it is
-  Numbered : ℕ → ℕ → Type 0
-  Numbered j n =
-      ((n ≡ r + j) × ((i : ℕ) → rightPartner (pairs t) i ≡ j → ⊥)) ⊎ ((n ≤ r) × (rightPartner (pairs t) n ≡ j))
-
-  numbered : (j n : ℕ) → HoldsAt t opening Right j n → Numbered j n
-  unfolding Numbered opening rightNumber
-  numbered zero n a = let h = registers-start Right 0 n a in absurd (omega arith)
-  numbered (suc j) n a = step (leftPartner 1 (pairs t) (suc j)) refl
-    where
-      step : (x : ℕ) → leftPartner 1 (pairs t) (suc j) ≡ x → Numbered (suc j) n
-      step zero e = inl (
-        sym (a .holds) ∙ rw e,
-        λ i h. let b = left-partner-exists (pairs t) i (suc j) (omega arith) h in omega arith,
-      )
-      step (suc k) e =
-          let q : suc k ≡ n = rw e at (a .holds) in
-          let h = left-partner-sound (pairs t) (suc k) (suc j) (omega arith) e in
-          let f = partner-place (pairs t) (suc k) (rw h (omega arith)) .1 in
-          rw (← q) (inr (rw (start-legal .long) at f, h))
-
-  -- left register i and right register j have the same number exactly if they are a pair
-  same-number : (i j n : ℕ) → i ≤ r → Numbered (suc j) n → (i ≡ n) ↔ (rightPartner (pairs t) i ≡ suc j)
-  unfolding Numbered
-  same-number i j n a (inl (e, alone)) = (λ q. absurd (omega arith), λ h. absurd (alone i h))
-  same-number i j n a (inr (b, h)) = (
-    λ q. rw q h,
-    λ q. start-legal .matches .injective i n (rw q (omega arith)) (q ∙ sym h),
-  )
-
-  -- two right registers have two numbers
-  same-register : (i j n : ℕ) → 1 ≤ i → 1 ≤ j → Numbered i n → Numbered j n → i ≡ j
-  unfolding Numbered
-  same-register i j n a b (inl c) (inl d) = omega (arith, c .0, d .0)
-  same-register i j n a b (inl c) (inr d) = absurd (omega (arith, c .0, d .0))
-  same-register i j n a b (inr c) (inl d) = absurd (omega (arith, c .0, d .0))
-  same-register i j n a b (inr c) (inr d) = sym (c .1) ∙ d .1
-
-  right-seen : (j n : ℕ) → j ≤ r → Numbered j n → n ≤ 2 * r
-  unfolding Numbered
-  right-seen j n a (inl b) = omega (arith, b .0)
-  right-seen j n a (inr b) = omega (arith, b .0)
-
+  -- the history has as many others besides as its size asks for
   pub an-opening : (s : Setting) × Opening r t s
-  unfolding opening
-  an-opening = (
-    opening,
-    record {
-      setting = record { left = left; right = right; history = count-unique 0 (2 * r + 1) };
-      start-left = refl;
-      start-right = refl;
-      shared = shared;
-      seen-before = rw (count-length 0 (2 * r + 1)) (omega arith);
-    },
-  )
+  unfolding reader
+  an-opening =
+      let (history, unique, long, inside) = set-around (t .start .history) numbers numbers-fit in (
+        record { left = reader Left; right = reader Right; history = history },
+        record {
+          setting =
+              record {
+                left = reader-placed Left history inside;
+                right = reader-placed Right history inside;
+                history = unique;
+              };
+          start-left = v .start-left;
+          start-right = v .start-right;
+          shared = shared;
+          exact = λ b. long;
+          at-least = λ e. omega arith;
+        },
+      )
     where
-      seen : (n : ℕ) → n ≤ 2 * r → n ∈ opening .history
-      seen n h = count-intro 0 (2 * r + 1) n (omega arith) (omega arith)
-
-      left : Placed (t .left) (opening .left) (opening .history)
-      left =
-          record {
-            exists = v .left .start;
-            distinct = λ i j n a b. a .holds ∙ sym (b .holds);
-            seen = λ i n a. let h = registers-start Left i n a in seen n (let q = a .holds in omega arith);
-          }
-
-      right : Placed (t .right) (opening .right) (opening .history)
-      right =
-          record {
-            exists = v .right .start;
-            distinct =
-                λ i j n a b.
-                let (f, _) = registers-start Right i n a in
-                let (g, _) = registers-start Right j n b in
-                same-register i j n f g (numbered i n a) (numbered j n b);
-            seen = λ j n a. seen n (right-seen j n (registers-start Right j n a .1) (numbered j n a));
-          }
-
-      shared : (i j n m : ℕ) → HoldsAt t opening Left i n → HoldsAt t opening Right j m → (n ≡ m) ↔ IsPair t i j
-      shared i zero n m a b = let h = registers-start Right 0 m b in absurd (omega arith)
+      shared : (i j n m : ℕ) → Holds (t .left) (reader Left) i n → Holds (t .right) (reader Right) j m → (n ≡ m) ↔ IsPair t i j
+      shared i zero n m a b = let h = has-positive (filled t (t .start) Right) 0 (b .filled) in absurd (omega arith)
       shared i (suc j) n m a b =
-          let same = same-number i j m (registers-start Left i n a .1) (numbered (suc j) m b) in
-          rw (← a .holds) (Iff·trans same (Iff·symm (pair-partner t i j)))
+          rw (← a .holds, ← b .holds) (Iff·trans (number-shared i j) (Iff·symm (pair-partner t i j)))

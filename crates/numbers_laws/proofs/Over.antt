@@ -1,6 +1,6 @@
 -- The relation that the proof goes by: a setting with actual numbers stands over a position (it is an abstraction relation).
 -- What it says of each side alone, and of partners seen from either side. Assumes nothing.
-use Prim.Native.Nat.{ℕ, zero, suc, _+_, _*_, _≤_}
+use Prim.Native.Nat.{ℕ, zero, suc, _≤_}
 use mathlib.Core.Path.{_≡_, sym, _∙_}
 use mathlib.Core.Logic.{_↔_}
 use native.Mathlib.Omega.{arith}
@@ -9,13 +9,16 @@ use Rattle.fra.specs.Lists.{_∈_}
 use Rattle.fra.specs.Model.{setOf}
 use Rattle.fra.specs.Rules.{other, modelOf}
 use Rattle.fra.specs.Position.{stateOf, rightPartner, partner}
+use Rattle.fra.specs.Valid.{Valid}
 use Rattle.fra.specs.declared.Model.{Model}
 use Rattle.fra.specs.declared.Position.{Position}
 use Rattle.fra.specs.declared.Task.{Task}
 use Rattle.fra.specs.declared.Side.{Side}
 use Rattle.fra.specs.declared.Side.the-variants.{Left, Right}
 use Rattle.fra_laws.proofs.Registers.{has-positive, left-partner-sound, left-partner-exists}
+use Rattle.fra_laws.proofs.Legal.{valid-side, registers-exist}
 use Rattle.numbers.specs.Numbers.{Reader, Holds, Setting, readerOf, Placed, IsSetting}
+use Rattle.numbers_laws.proofs.HistorySizes.{Sized}
 
 -- register i of side σ holds the number n
 abbrev pub HoldsAt : Task → Setting → Side → ℕ → ℕ → Type 0
@@ -30,13 +33,13 @@ abbrev pub Shared : Task → Setting → ℕ → ℕ → Type 0
 Shared t s i j = (n : ℕ) × HoldsAt t s Left i n × HoldsAt t s Right j n
 
 -- the setting s stands over the position p: the states are the same, left register i and right register j are partners
--- exactly if they hold the same number, and the history is larger than both readers together
+-- exactly if they hold the same number, and the history has the position's size
 pub record Over (r : ℕ) (t : Task) (s : Setting) (p : Position) : Type 0 where
   pub setting : IsSetting t s
-  pub seen-before : 2 * r + 1 ≤ length (s .history)
   pub states : (σ : Side) → stateOf p σ ≡ readerOf s σ .state
-  pub size : length (p .partners) ≡ r
+  pub long : length (p .partners) ≡ r
   pub shared : (i j : ℕ) → (rightPartner (p .partners) i ≡ suc j) ↔ Shared t s i (suc j)
+  pub sized : Sized r (p .history) (s .history)
 
 -- ── One side ──
 
@@ -55,6 +58,11 @@ module _ (m : Model) (x : Reader) where
 -- ── Both sides ──
 
 module _ (r : ℕ) (t : Task) (s : Setting) (p : Position) (o : Over r t s p) where
+  -- a register that holds a number is one of the r
+  pub registers : Valid r t → (σ : Side) (i n : ℕ) → HoldsAt t s σ i n → (1 ≤ i) × (i ≤ r)
+  registers v σ i n a =
+      registers-exist (valid-side v σ) (readerOf s σ .state) i (placed t s (o .setting) σ .exists) (a .filled)
+
   -- a side holds no number that is not in the history
   pub unseen-lacks : (σ : Side) (n : ℕ) → (n ∈ s .history → ⊥) → Lacks t s σ n
   unseen-lacks σ n h i a = h (placed t s (o .setting) σ .seen i n a)

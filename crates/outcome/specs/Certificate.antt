@@ -19,7 +19,8 @@ use Rattle.fra.specs.declared.Attack.{Attack}
 use Rattle.outcome.specs.Bytes.{word, allOnes}
 use Rattle.outcome.specs.Verdicts.{Contest, kindOf}
 
--- ── The table: "12 bytes an entry: position, then rounds, .. FF FF FF FF if never lost" ──
+-- ── The table: "12 bytes an entry: position, then rounds, .. FF FF FF FF if never lost"; 02, ticket 2: "Table entries become 13
+-- bytes" ──
 
 abbrev pub roundsOrNever : Option ℕ → ℕ
 roundsOrNever none = allOnes
@@ -32,7 +33,7 @@ entry g t n p = bytes p ++ word (roundsOrNever (rank g t n p))
 unfoldable pub entries : Rules → Task → List ℕ
 entries g t = let l = reached g t in flatMap (entry g t (length l)) l
 
--- ── The certificate of a start that is never lost: "kind 16, position, 9 bytes each" ──
+-- ── The certificate of a start that is never lost: "kind 16, position"; 02, ticket 2: "certificate records 10 and 17" bytes ──
 
 abbrev pub isNever : Option ℕ → Bool
 isNever none = true

@@ -28,26 +28,32 @@ use Rattle.outcome.specs.declared.Check.the-variants.{Accepted, Refused}
 
 -- ── Records ──
 
--- a body's position: two states and r partners
+-- a body's position: two states, r partners and the history's size
 unfoldable pub positionOf : ℕ → List ℕ → Position
-positionOf r body = record { left = getD body 0 0; right = getD body 1 0; partners = take r (drop 2 body) }
+positionOf r body =
+    record {
+      left = getD body 0 0;
+      right = getD body 1 0;
+      partners = take r (drop 2 body);
+      history = getD body (r + 2) 0;
+    }
 
 unfoldable pub lossFrom : ℕ → List ℕ → Loss
 lossFrom r body =
     record {
       position = positionOf r body;
-      side = getD body (r + 2) 0;
-      edge = getD body (r + 3) 0;
-      case = getD body (r + 4) 0;
-      rounds = wordAt body (r + 5);
+      side = getD body (r + 3) 0;
+      edge = getD body (r + 4) 0;
+      case = getD body (r + 5) 0;
+      rounds = wordAt body (r + 6);
     }
 
 -- the bytes of a body: position; position, side, edge, case and four bytes of rounds
 abbrev pub keptLength : ℕ → ℕ
-keptLength r = r + 2
+keptLength r = r + 3
 
 abbrev pub lossLength : ℕ → ℕ
-lossLength r = r + 9
+lossLength r = r + 10
 
 -- the records of at most n bytes, all of one kind and none of them cut
 unfoldable pub bodies : ℕ → ℕ → ℕ → List ℕ → Option (List (List ℕ))
@@ -158,7 +164,8 @@ checkTask r c t (b ∷ l) =
           [ true ↦ checkLosses r c t (bodies b (lossLength r) (suc (length (b ∷ l))) (b ∷ l)) | false ↦ Refused 13 ]
     ]
 
--- "The checker gives 1 to 10, 13, 14"
+-- "The checker gives 1 to 10, 13, 14"; 02, ticket 2: "Every part that reads a task gives 1 to 10, 15 and any later refusal of a
+-- record"
 unfoldable pub checkRead : Contest → Answer → Task → List ℕ → Check
 checkRead c Read t l = checkTask maxRegisters c t l
 checkRead c (Unread n) t l = Refused n

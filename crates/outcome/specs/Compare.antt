@@ -22,9 +22,9 @@ pub record Outcome : Type 0 where
   pub table : List ℕ
   pub certificate : List ℕ
 
--- "12 bytes an entry"; "Spare bytes at its end make no entry."
+-- 02, ticket 2: "Table entries become 13 bytes"; "Spare bytes at its end make no entry."
 unfoldable pub capacity : List ℕ → ℕ
-capacity table = length table / 12
+capacity table = length table / 13
 
 -- "positions reached, rounds (0 for EQUAL) and certificate length"
 unfoldable pub decided : Contest → ℕ → Option ℕ → ℕ → Comparison
@@ -56,7 +56,7 @@ compareTask c t table buffer =
     elim (ltb (capacity table) (length (reached (c .rules) t)))
     [ true ↦ refusedLate 11 table buffer | false ↦ judge c t table buffer ]
 
--- "1 to 10 change no buffer"
+-- "1 to 10 change no buffer"; 02, ticket 2: "1 to 10, 15 and any later refusal of a record, and then changes no buffer"
 unfoldable pub compareRead : Contest → Answer → Task → List ℕ → List ℕ → Outcome
 compareRead c Read t table buffer = compareTask c t table buffer
 compareRead c (Unread n) t table buffer = record { answer = Refused n; table = table; certificate = buffer }

@@ -33,7 +33,7 @@ pub record Counted (has : Position → Type 0) (n : ℕ) : Type 0 where
 abbrev pub RoundsOf : Rules → Task → Position → ℕ → Type 0
 RoundsOf g t p n = HasRank g t p n ⊎ NeverLost g t p × (n ≡ allOnes)
 
--- "12 bytes an entry: position, then rounds, four bytes, high byte first"
+-- an entry: "position, then rounds, four bytes, high byte first"
 pub record Entry : Type 0 where
   pub position : Position
   pub rounds : ℕ
@@ -51,7 +51,7 @@ pub record TableHolds (g : Rules) (t : Task) (written : List ℕ) : Type 0 where
 
 -- ── The certificate of a start that is never lost ──
 
--- "kind 16, position, 9 bytes each, for every reached position never lost, rising"
+-- "kind 16, position, .. for every reached position never lost, rising"
 pub record KeptWritten (c : Contest) (t : Task) (written : List ℕ) : Type 0 where
   pub positions : List Position
   pub encoded : written ≡ flatMap (keptRecord (kindOf (c .kept))) positions
@@ -101,8 +101,7 @@ pub record LossOf (g : Rules) (t : Task) (x : Loss) : Type 0 where
   pub has-rank : HasRank g t (x .position) (x .rounds)
   pub names : NamesNoAttack x ⊎ NamesFirstAttack g t x
 
--- "kind 17, position, side, edge, case, rounds .., 16 bytes each. It lists the start and all positions that its attacks lead
--- to, rising."
+-- "kind 17, position, side, edge, case, rounds ... It lists the start and all positions that its attacks lead to, rising."
 pub record LossesWritten (c : Contest) (t : Task) (written : List ℕ) : Type 0 where
   pub losses : List Loss
   pub encoded : written ≡ flatMap (lossRecord (kindOf (c .lost))) losses

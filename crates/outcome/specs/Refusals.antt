@@ -86,7 +86,7 @@ pub record NotAccepted (r : ℕ) (c : Contest) (t : Task) (certificate : List �
   pub well-formed : Malformed r c t certificate → ⊥
   pub unmet : (v : Verdict) (n : ℕ) → Accepts r c t certificate v n → ⊥
 
--- ── "The checker gives 1 to 10, 13, 14; the comparer 1 to 12." ──
+-- ── "The checker gives 1 to 10, 13, 14; the comparer 1 to 12." 02, ticket 2: both give 15 too ──
 
 -- the case that is named for refusal n of the comparer; of 11 and 12 the lower one counts
 unfoldable pub ComparerRefuses : Contest → List ℕ → List ℕ → List ℕ → ℕ → Type 0

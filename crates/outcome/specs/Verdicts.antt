@@ -49,11 +49,10 @@ kindOf Differ = 17
 kindOf Follows = 18
 kindOf FallsShort = 19
 
--- the bytes of such a record: "kind 16, position, 9 bytes each", "kind 17, position, .. 16 bytes each"; 18 and 19 are "laid out as
--- 16 and 17"
+-- the bytes of such a record; 02, ticket 2: "certificate records 10 and 17"; 18 and 19 are "laid out as 16 and 17"
 abbrev pub widthOf : Standing → ℕ
-widthOf Kept = 9
-widthOf Lost = 16
+widthOf Kept = 10
+widthOf Lost = 17
 
 -- The numbers that a call returns. A verdict's number is its certificate's kind.
 pub record Values : Type 0 where

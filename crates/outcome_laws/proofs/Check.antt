@@ -21,7 +21,7 @@ use Rattle.outcome.specs.Check.{checkTask, judgeList, orderly, positionOf, kept
 use Rattle.outcome.specs.Refusals.{Kind, of-kept, of-lost, records, Malformed, NotAccepted}
 use Rattle.outcome.specs.declared.Verdict.{Verdict}
 use Rattle.outcome.specs.declared.Check.the-variants.{Accepted, Refused}
-use Rattle.outcome_laws.proofs.PassedTests.{tests}
+use Rattle.fra_laws.proofs.Legal.{legal-facts}
 use Rattle.outcome_laws.proofs.Bodies.{Whole}
 use Rattle.outcome_laws.proofs.Orderly.{orderly-passes}
 use Rattle.outcome_laws.proofs.Accepted.{same-passes, kept-accepted, losses-accepted}
@@ -73,10 +73,6 @@ start-rounds t (y ∷ l) (above, rest) x m e = step (List·Memᴰ·cases-cons m)
         (before-irreflexive (y .position))) in
         rw (f, startRounds) (later n)
 
-partners-count : (r : ℕ) (t : Task) (p : Position) → legal r t p ≡ true → length (p .partners) ≡ r
-unfolding legal
-partners-count r t p h = let (((left, right), count), matching) = simp tests at h in count
-
 module _ (r : ℕ) (c : Contest) (t : Task) (differ : kindOf (c .kept) ≢ kindOf (c .lost)) where
   -- ── The answer to the bytes of a list ──
 
@@ -99,7 +95,7 @@ module _ (r : ℕ) (c : Contest) (t : Task) (differ : kindOf (c .kept) ≢ kindO
   kept-answer l are-legal =
       let (e, f) =
       encoded-answer of-kept bytes (positionOf r) l
-      (λ p m. let n = partners-count r t p (are-legal p m) in (position-length r p n, position-decoded r p n)) in
+      (λ p m. let n = legal-facts r t p (are-legal p m) .long in (position-length r p n, position-decoded r p n)) in
       e ∙ rw f
 
   lost-answer : (l : List Loss) → ((x : Loss) → x ∈ l → legal r t (x .position) ≡ true)
@@ -111,7 +107,7 @@ module _ (r : ℕ) (c : Contest) (t : Task) (differ : kindOf (c .kept) ≢ kindO
       let (e, f) =
       encoded-answer of-lost lossBody (lossFrom r) l
       (λ x m.
-      let n = partners-count r t (x .position) (are-legal x m) in
+      let n = legal-facts r t (x .position) (are-legal x m) .long in
       (loss-length r x n, loss-decoded r x n (are-words x m))) in
       e ∙ rw (← places r (map lossBody l), f)
 

@@ -3,7 +3,7 @@ use mathlib.Core.Path.{_≡_, refl}
 use mathlib.Core.Bool.{true}
 use mathlib.Core.List.{List}
 use Rattle.fra.specs.Lists.{all}
-use Rattle.outcome_marked.specs.MarkedCases.{Case, markedCases, furtherCases, oneWayCases, met}
+use Rattle.outcome_marked.specs.MarkedCases.{Case, markedCases, furtherCases, oneWayCases, historyCases, met}
 
 abbrev pub AllMet : List Case → Type 0
 AllMet l = all met l ≡ true
@@ -22,3 +22,8 @@ further-cases = refl
 pub one-way-cases : AllMet oneWayCases
 unfolding all met oneWayCases
 one-way-cases = refl
+
+-- those of history sizes
+pub history-cases : AllMet historyCases
+unfolding all met historyCases
+history-cases = refl

@@ -218,14 +218,14 @@ returning-other =
 abbrev pub end : List ℕ
 end = 0x0f ∷ []
 
--- a call with room to spare: eight entries and five spare bytes, 100 bytes for the certificate
+-- a call with room to spare: eight entries of 13 bytes and five spare bytes, 100 bytes for the certificate
 abbrev pub call : List ℕ → Values → Case
 call file expected =
-    record { game = BothAttack; file = file; table = 101; buffer = 100; expected = expected; left-behind = none }
+    record { game = BothAttack; file = file; table = 109; buffer = 100; expected = expected; left-behind = none }
 
 abbrev pub callOneWay : List ℕ → Values → Case
 callOneWay file expected =
-    record { game = LeftAttacks; file = file; table = 101; buffer = 100; expected = expected; left-behind = none }
+    record { game = LeftAttacks; file = file; table = 109; buffer = 100; expected = expected; left-behind = none }
 
 abbrev pub lending : ℕ → ℕ → List ℕ → Values → Case
 lending table buffer file expected =
@@ -236,7 +236,7 @@ leaving table certificate file expected =
     record {
       game = BothAttack;
       file = file;
-      table = 101;
+      table = 109;
       buffer = 100;
       expected = expected;
       left-behind = some (record { table = table; certificate = certificate });
@@ -245,84 +245,145 @@ leaving table certificate file expected =
 -- case 2: 17, the start, side 1, edge 0, case 7, 1 round; and then the buffer as it was
 abbrev pub certificate-2 : List ℕ
 certificate-2 =
-    0x11 ∷ 0x00 ∷ 0x00 ∷ 0x00 ∷ 0x00 ∷ 0x00 ∷ 0x00 ∷ 0x00 ∷ 0x00 ∷ 0x01 ∷ 0x00 ∷ 0x07 ∷ 0x00 ∷ 0x00 ∷ 0x00 ∷ 0x01
-    ∷ replicate 84 85
+    0x11 ∷ 0x00 ∷ 0x00 ∷ 0x00 ∷ 0x00 ∷ 0x00 ∷ 0x00 ∷ 0x00 ∷ 0x00 ∷ 0x0d ∷ 0x01 ∷ 0x00 ∷ 0x07 ∷ 0x00 ∷ 0x00 ∷ 0x00 ∷ 0x01
+    ∷ replicate 83 85
 
 -- case 2: the start with 1 round; the position after the first edges, never lost; and then zeros
 abbrev pub table-2 : List ℕ
 table-2 =
-    0x00 ∷ 0x00 ∷ 0x00 ∷ 0x00 ∷ 0x00 ∷ 0x00 ∷ 0x00 ∷ 0x00 ∷ 0x00 ∷ 0x00 ∷ 0x00 ∷ 0x01
-    ∷ 0x01 ∷ 0x01 ∷ 0x01 ∷ 0x00 ∷ 0x00 ∷ 0x00 ∷ 0x00 ∷ 0x00 ∷ 0xff ∷ 0xff ∷ 0xff ∷ 0xff
-    ∷ replicate 77 0
+    0x00 ∷ 0x00 ∷ 0x00 ∷ 0x00 ∷ 0x00 ∷ 0x00 ∷ 0x00 ∷ 0x00 ∷ 0x0d ∷ 0x00 ∷ 0x00 ∷ 0x00 ∷ 0x01
+    ∷ 0x01 ∷ 0x01 ∷ 0x01 ∷ 0x00 ∷ 0x00 ∷ 0x00 ∷ 0x00 ∷ 0x00 ∷ 0x0d ∷ 0xff ∷ 0xff ∷ 0xff ∷ 0xff
+    ∷ replicate 83 0
 
 -- two rewritten registers: the position after a round, in which only the two registers written are partners, is lost in 1
 -- round by side 1, edge 0, case 2; the start in 2 by side 1, edge 0, case 7
 abbrev pub table-rewritten : List ℕ
 table-rewritten =
-    0x00 ∷ 0x00 ∷ 0x01 ∷ 0x00 ∷ 0x00 ∷ 0x00 ∷ 0x00 ∷ 0x00 ∷ 0x00 ∷ 0x00 ∷ 0x00 ∷ 0x01
-    ∷ 0x00 ∷ 0x00 ∷ 0x02 ∷ 0x01 ∷ 0x00 ∷ 0x00 ∷ 0x00 ∷ 0x00 ∷ 0x00 ∷ 0x00 ∷ 0x00 ∷ 0x02
-    ∷ replicate 77 0
+    0x00 ∷ 0x00 ∷ 0x01 ∷ 0x00 ∷ 0x00 ∷ 0x00 ∷ 0x00 ∷ 0x00 ∷ 0x0d ∷ 0x00 ∷ 0x00 ∷ 0x00 ∷ 0x01
+    ∷ 0x00 ∷ 0x00 ∷ 0x02 ∷ 0x01 ∷ 0x00 ∷ 0x00 ∷ 0x00 ∷ 0x00 ∷ 0x0d ∷ 0x00 ∷ 0x00 ∷ 0x00 ∷ 0x02
+    ∷ replicate 83 0
 
 abbrev pub certificate-rewritten : List ℕ
 certificate-rewritten =
-    0x11 ∷ 0x00 ∷ 0x00 ∷ 0x01 ∷ 0x00 ∷ 0x00 ∷ 0x00 ∷ 0x00 ∷ 0x00 ∷ 0x01 ∷ 0x00 ∷ 0x02 ∷ 0x00 ∷ 0x00 ∷ 0x00 ∷ 0x01
-    ∷ 0x11 ∷ 0x00 ∷ 0x00 ∷ 0x02 ∷ 0x01 ∷ 0x00 ∷ 0x00 ∷ 0x00 ∷ 0x00 ∷ 0x01 ∷ 0x00 ∷ 0x07 ∷ 0x00 ∷ 0x00 ∷ 0x00 ∷ 0x02
-    ∷ replicate 68 85
+    0x11 ∷ 0x00 ∷ 0x00 ∷ 0x01 ∷ 0x00 ∷ 0x00 ∷ 0x00 ∷ 0x00 ∷ 0x00 ∷ 0x0d ∷ 0x01 ∷ 0x00 ∷ 0x02 ∷ 0x00 ∷ 0x00 ∷ 0x00 ∷ 0x01
+    ∷ 0x11 ∷ 0x00 ∷ 0x00 ∷ 0x02 ∷ 0x01 ∷ 0x00 ∷ 0x00 ∷ 0x00 ∷ 0x00 ∷ 0x0d ∷ 0x01 ∷ 0x00 ∷ 0x07 ∷ 0x00 ∷ 0x00 ∷ 0x00 ∷ 0x02
+    ∷ replicate 66 85
 
 unfoldable pub markedCases : List Case
 markedCases =
-    -- 1. P, P: EQUAL, 2 positions, 18 bytes
-    call (P ++ P ++ end) (equals 2 18)
+    -- 1. P, P: EQUAL, 2 positions, 20 bytes (02, ticket 2: certificates "of cases 1 and 11 have 20 and 51 bytes")
+    call (P ++ P ++ end) (equals 2 20)
     -- 2. P, G: DIFFER, 2 positions, 1 round
-    ∷ leaving table-2 certificate-2 (P ++ G ++ end) (differs 2 1 16)
+    ∷ leaving table-2 certificate-2 (P ++ G ++ end) (differs 2 1 17)
     -- 3. P against P with two registers, using register 2: EQUAL, 2 positions
-    ∷ call (P ++ P₂ ++ end) (equals 2 18)
+    ∷ call (P ++ P₂ ++ end) (equals 2 20)
     -- 4. One state each, register 1 held, a known loop with tag 0, no pair: DIFFER, 1 position, 1 round
-    ∷ call (loop ++ loop ++ end) (differs 1 1 16)
+    ∷ call (loop ++ loop ++ end) (differs 1 1 17)
     -- 5. As 4 with pair 1, 1: EQUAL, 1 position
-    ∷ call (loop ++ loop ++ (0x04 ∷ 0x01 ∷ 0x01 ∷ end)) (equals 1 9)
+    ∷ call (loop ++ loop ++ (0x04 ∷ 0x01 ∷ 0x01 ∷ end)) (equals 1 10)
     -- 6. One state each, no edges, end marks 1 and 0: DIFFER, 0 rounds
-    ∷ call (marked-1 ++ marked-0 ++ end) (differs 1 0 16)
+    ∷ call (marked-1 ++ marked-0 ++ end) (differs 1 0 17)
     -- 7. Empty file: 2
     ∷ call [] (refuses 2)
     -- 8. A known edge of a register outside its set: 7
     ∷ call outside (refuses 7)
-    -- 9. Case 1, table of 23 bytes: 11; of 24: EQUAL
-    ∷ lending 23 100 (P ++ P ++ end) (refuses 11)
-    ∷ lending 24 100 (P ++ P ++ end) (equals 2 18)
-    -- 10. Case 1, certificate buffer of 17 bytes: 12; of 18: EQUAL
-    ∷ lending 101 17 (P ++ P ++ end) (refuses 12)
-    ∷ lending 101 18 (P ++ P ++ end) (equals 2 18)
-    -- 11. Register 1 held and paired: DIFFER, 4 positions, 2 rounds, 48 bytes
-    ∷ call (fork-late ++ fork-early ++ (0x04 ∷ 0x01 ∷ 0x01 ∷ end)) (differs 4 2 48)
+    -- 9. Case 1, table of 25 bytes: 11; of 26: EQUAL (02, ticket 2: "Cases 9 and 10 read 25 and 26, 19 and 20")
+    ∷ lending 25 100 (P ++ P ++ end) (refuses 11)
+    ∷ lending 26 100 (P ++ P ++ end) (equals 2 20)
+    -- 10. Case 1, certificate buffer of 19 bytes: 12; of 20: EQUAL
+    ∷ lending 109 19 (P ++ P ++ end) (refuses 12)
+    ∷ lending 109 20 (P ++ P ++ end) (equals 2 20)
+    -- 11. Register 1 held and paired: DIFFER, 4 positions, 2 rounds, 51 bytes
+    ∷ call (fork-late ++ fork-early ++ (0x04 ∷ 0x01 ∷ 0x01 ∷ end)) (differs 4 2 51)
     ∷ []
 
 unfoldable pub furtherCases : List Case
 furtherCases =
     -- a number that only the right reader holds: the right side has no known edge to answer with
-    call (dropper ++ holder ++ end) (differs 1 1 16)
+    call (dropper ++ holder ++ end) (differs 1 1 17)
     -- as before, and the right side has one
-    ∷ call (dropper ++ teller ++ end) (equals 1 9)
+    ∷ call (dropper ++ teller ++ end) (equals 1 10)
     -- both written registers lose their partners: after one round pair 1, 1 alone is left, and an attack in case 2 has no reply
     ∷ leaving table-rewritten certificate-rewritten
     (swapper ++ swapper ++ (0x04 ∷ 0x01 ∷ 0x02 ∷ 0x04 ∷ 0x02 ∷ 0x01 ∷ end))
-    (differs 2 2 32)
+    (differs 2 2 34)
     -- a known edge of an unpartnered register is answered by a locally fresh one, on the other side than above
-    ∷ call (teller ++ dropper ++ end) (equals 1 9)
+    ∷ call (teller ++ dropper ++ end) (equals 1 10)
     -- a position with differing end marks leads on all the same
-    ∷ call (marked-middle ++ plain-middle ++ (0x04 ∷ 0x01 ∷ 0x01 ∷ end)) (differs 3 1 32)
+    ∷ call (marked-middle ++ plain-middle ++ (0x04 ∷ 0x01 ∷ 0x01 ∷ end)) (differs 3 1 34)
     -- a search that goes down and believes what it has not finished calls these equal
-    ∷ call (returning ++ returning-other ++ (0x04 ∷ 0x01 ∷ 0x01 ∷ end)) (differs 8 3 48)
+    ∷ call (returning ++ returning-other ++ (0x04 ∷ 0x01 ∷ 0x01 ∷ end)) (differs 8 3 51)
     ∷ []
 
 -- 02, ticket 1: "Case 11 gives FALLS SHORT in 2 rounds, and FOLLOWS with the sides exchanged."
 unfoldable pub oneWayCases : List Case
 oneWayCases =
-    callOneWay (fork-late ++ fork-early ++ (0x04 ∷ 0x01 ∷ 0x01 ∷ end)) (fallsShort 4 2 48)
-    ∷ callOneWay (fork-early ++ fork-late ++ (0x04 ∷ 0x01 ∷ 0x01 ∷ end)) (follows 4 36)
+    callOneWay (fork-late ++ fork-early ++ (0x04 ∷ 0x01 ∷ 0x01 ∷ end)) (fallsShort 4 2 51)
+    ∷ callOneWay (fork-early ++ fork-late ++ (0x04 ∷ 0x01 ∷ 0x01 ∷ end)) (follows 4 40)
     -- no edges, end marks 0 and 1, and 1 and 0
-    ∷ callOneWay (marked-0 ++ marked-1 ++ end) (follows 1 9)
-    ∷ callOneWay (marked-1 ++ marked-0 ++ end) (fallsShort 1 0 16)
+    ∷ callOneWay (marked-0 ++ marked-1 ++ end) (follows 1 10)
+    ∷ callOneWay (marked-1 ++ marked-0 ++ end) (fallsShort 1 0 17)
+    ∷ []
+
+-- a file's record of the history's size, and its end
+abbrev pub sized : ℕ → List ℕ
+sized n = 0x05 ∷ n ∷ end
+
+-- 0-0-1 and 1-1-2, locally fresh edges of register 1, which state 1 alone holds
+abbrev pub late-fresh : List ℕ
+late-fresh =
+    0x01 ∷ 0x01 ∷ 0x03 ∷ 0x00
+    ∷ 0x02 ∷ 0x00 ∷ 0x00 ∷ 0x00
+    ∷ 0x02 ∷ 0x01 ∷ 0x01 ∷ 0x00
+    ∷ 0x02 ∷ 0x02 ∷ 0x00 ∷ 0x00
+    ∷ 0x03 ∷ 0x00 ∷ 0x00 ∷ 0x01 ∷ 0x01 ∷ 0x01
+    ∷ 0x03 ∷ 0x01 ∷ 0x01 ∷ 0x01 ∷ 0x01 ∷ 0x02 ∷ []
+
+-- as late-fresh, with a globally fresh second edge
+abbrev pub late-new : List ℕ
+late-new =
+    0x01 ∷ 0x01 ∷ 0x03 ∷ 0x00
+    ∷ 0x02 ∷ 0x00 ∷ 0x00 ∷ 0x00
+    ∷ 0x02 ∷ 0x01 ∷ 0x01 ∷ 0x00
+    ∷ 0x02 ∷ 0x02 ∷ 0x00 ∷ 0x00
+    ∷ 0x03 ∷ 0x00 ∷ 0x00 ∷ 0x01 ∷ 0x01 ∷ 0x01
+    ∷ 0x03 ∷ 0x01 ∷ 0x01 ∷ 0x02 ∷ 0x01 ∷ 0x02 ∷ []
+
+-- the start, size 1: side 1, edge 0, case 8, 2 rounds. A new number leads to size 2, where the left side takes one seen before, case 7.
+abbrev pub certificate-late : List ℕ
+certificate-late =
+    0x11 ∷ 0x00 ∷ 0x00 ∷ 0x00 ∷ 0x00 ∷ 0x00 ∷ 0x00 ∷ 0x00 ∷ 0x00 ∷ 0x01 ∷ 0x01 ∷ 0x00 ∷ 0x08 ∷ 0x00 ∷ 0x00 ∷ 0x00 ∷ 0x02
+    ∷ 0x11 ∷ 0x01 ∷ 0x01 ∷ 0x01 ∷ 0x00 ∷ 0x00 ∷ 0x00 ∷ 0x00 ∷ 0x00 ∷ 0x02 ∷ 0x01 ∷ 0x01 ∷ 0x07 ∷ 0x00 ∷ 0x00 ∷ 0x00 ∷ 0x01
+    ∷ replicate 66 85
+
+-- two locally fresh edges lead to two sizes, and the rows of state 1 and of state 2 differ in the ninth byte alone
+abbrev pub table-late : List ℕ
+table-late =
+    0x00 ∷ 0x00 ∷ 0x00 ∷ 0x00 ∷ 0x00 ∷ 0x00 ∷ 0x00 ∷ 0x00 ∷ 0x01 ∷ 0x00 ∷ 0x00 ∷ 0x00 ∷ 0x02
+    ∷ 0x01 ∷ 0x01 ∷ 0x01 ∷ 0x00 ∷ 0x00 ∷ 0x00 ∷ 0x00 ∷ 0x00 ∷ 0x01 ∷ 0xff ∷ 0xff ∷ 0xff ∷ 0xff
+    ∷ 0x01 ∷ 0x01 ∷ 0x01 ∷ 0x00 ∷ 0x00 ∷ 0x00 ∷ 0x00 ∷ 0x00 ∷ 0x02 ∷ 0x00 ∷ 0x00 ∷ 0x00 ∷ 0x01
+    ∷ 0x02 ∷ 0x02 ∷ 0x00 ∷ 0x00 ∷ 0x00 ∷ 0x00 ∷ 0x00 ∷ 0x00 ∷ 0x02 ∷ 0xff ∷ 0xff ∷ 0xff ∷ 0xff
+    ∷ 0x02 ∷ 0x02 ∷ 0x00 ∷ 0x00 ∷ 0x00 ∷ 0x00 ∷ 0x00 ∷ 0x00 ∷ 0x03 ∷ 0xff ∷ 0xff ∷ 0xff ∷ 0xff
+    ∷ replicate 44 0
+
+-- 02, ticket 2: history sizes
+unfoldable pub historyCases : List Case
+historyCases =
+    -- "Case 2 with size 0 is EQUAL with 2 positions."
+    call (P ++ G ++ sized 0) (equals 2 20)
+    -- "13 means 13 or more, and without the record it is 13"
+    ∷ leaving table-2 certificate-2 (P ++ G ++ sized 13) (differs 2 1 17)
+    -- a new number is tried with locally fresh edges too
+    ∷ leaving table-late certificate-late (late-fresh ++ late-new ++ sized 1) (differs 5 2 34)
+    -- 15: "the size is above 13", and "less than the numbers held together at the start", with and without a pair
+    ∷ call (P ++ G ++ sized 14) (refuses 15)
+    ∷ call (loop ++ loop ++ sized 1) (refuses 15)
+    ∷ call (loop ++ loop ++ sized 2) (differs 1 1 17)
+    ∷ call (loop ++ loop ++ (0x04 ∷ 0x01 ∷ 0x01 ∷ sized 0)) (refuses 15)
+    ∷ call (loop ++ loop ++ (0x04 ∷ 0x01 ∷ 0x01 ∷ sized 1)) (equals 1 10)
+    -- "checked in that record after 3": a pair, and a second size, after the size
+    ∷ call (loop ++ loop ++ (0x05 ∷ 0x0d ∷ 0x04 ∷ 0x01 ∷ 0x01 ∷ end)) (refuses 3)
+    ∷ call (P ++ G ++ (0x05 ∷ 0x0d ∷ sized 14)) (refuses 3)
     ∷ []
 
 -- ── What a case is held to ──
@@ -343,14 +404,16 @@ sameBuffers o (some b) = Lists.equal (o .table) (b .table) && Lists.equal (o .ce
 unfoldable pub outcome : Case → Compare.Outcome
 unfolding flatMap Lists.any Lists.all Lists.keep Lists.first Lists.count Lists.least Lists.below Lists.equal Registers.has
     Registers.inside Registers.with Model.setOf Model.markOf Model.edgeOf Model.edgeBytes Position.rightPartner
-    Position.leftPartner Position.partner Position.matching Position.legal Position.bytes Position.before Play.hasCase
+    Position.leftPartner Position.partner Position.matching Position.isUnshared Position.heldIn Position.hasRoom
+    Position.legal Position.bytes Position.before Play.hasCase
     Play.isAttack Play.cases Play.named Play.attacks Play.answers Play.isReply Play.replies Play.rejoined Play.remaining
     Play.matched Play.moved Play.after Play.lostAtOnce Play.lostWithin Reach.successors Reach.insert Reach.grown Reach.closed
     Reach.enough Reach.reached Reach.rank Reach.rounds TaskFile.noModel TaskFile.noTask TaskFile.atStart
     TaskFile.headerRefusal TaskFile.headed TaskFile.withHeader TaskFile.headerAt TaskFile.stateRefusal TaskFile.withState
     TaskFile.afterState TaskFile.stateAt TaskFile.edgeOfBody TaskFile.edgeExists TaskFile.keepsRule TaskFile.rises
     TaskFile.edgeRefusal TaskFile.withEdge TaskFile.edgeAt TaskFile.rising TaskFile.pairRefusal TaskFile.withPair
-    TaskFile.pairAt TaskFile.endAt TaskFile.header TaskFile.state TaskFile.edge TaskFile.pair TaskFile.end TaskFile.recordKind
+    TaskFile.pairAt TaskFile.historyRefusal TaskFile.withHistory TaskFile.historyAt TaskFile.endAt TaskFile.header
+    TaskFile.state TaskFile.edge TaskFile.pair TaskFile.history TaskFile.end TaskFile.recordKind
     TaskFile.bodyLength TaskFile.step TaskFile.atEnd TaskFile.readRest TaskFile.readTask Bytes.word Bytes.wordAt Bytes.cleared
     Bytes.thenZeros Bytes.thenRest Certificate.entry Certificate.entries Certificate.keptRecord Certificate.keptPositions
     Certificate.lossRecord Certificate.wins Certificate.chosen Certificate.attackOf Certificate.attackLeads

@@ -1,6 +1,6 @@
 -- The promises of specs/Promises.antt are kept, and the functions that people call end on every input and return what these speak
 -- of. Assumes nothing.
-use Prim.Native.Nat.{ℕ, zero, suc, _≤_, _<_}
+use Prim.Native.Nat.{ℕ, zero, suc, _*_, _-_, _≤_, _<_}
 use mathlib.Core.Path.{_≡_, refl, sym, _∙_, ap, subst}
 use mathlib.Core.Logic.{_⊎_, inl, inr, ⊎-elim, _↔_, _≢_}
 use mathlib.Core.Bool.{true, cond}
@@ -65,7 +65,7 @@ use Rattle.exports.proofs.nuldopa_compare_one_way.Met.{met as compare-one-way-f
 use Rattle.exports.proofs.nuldopa_check_one_way.Statement.{statement as check-one-way-for-c-statement}
 use Rattle.exports.proofs.nuldopa_check_one_way.Met.{met as check-one-way-for-c-met}
 use Rattle.promises.specs.Promises.{Promises, Demand1, Demand2, Demand3, returned, returnedByCheck, Gives}
-use Rattle.promises.proofs.Support.{compared-read, compared-unread, decided-read, written-part, checked-read, checked-unread, count-most, count-fits}
+use Rattle.promises.proofs.Support.{compared-read, compared-unread, decided-read, written-part, checked-read, checked-unread, size-most, count-most, count-fits}
 
 -- ── The functions ──
 
@@ -343,7 +343,7 @@ module _ (c : Contest) (kinds-differ : kindOf (c .kept) ≢ kindOf (c .lost)) wh
               (d .says .start)
 
       -- the rounds, and the count of positions that they do not exceed
-      rounds-bound : (r .rounds ≤ r .positions) × (r .positions ≤ 3411712)
+      rounds-bound : (r .rounds ≤ r .positions) × (r .positions ≤ (14 - taskOf file .start .history) * 3411712)
       rounds-bound =
           let most = count-most (c .rules) file (d .read) in
           let count = d .says .count in
@@ -520,12 +520,12 @@ module _ (c : Contest) (kinds-differ : kindOf (c .kept) ≢ kindOf (c .lost)) wh
   -- numbers of a refusal exceed nothing
   bounds : (file table buffer : List ℕ)
       → (returned c file table buffer .rounds ≤ returned c file table buffer .positions)
-      × (returned c file table buffer .positions ≤ 3411712)
+      × (returned c file table buffer .positions ≤ (14 - taskOf file .start .history) * 3411712)
   bounds file table buffer = by (returned c file table buffer .refusal) refl
     where
       by : (n : ℕ) → returned c file table buffer .refusal ≡ n
           → (returned c file table buffer .rounds ≤ returned c file table buffer .positions)
-          × (returned c file table buffer .positions ≤ 3411712)
+          × (returned c file table buffer .positions ≤ (14 - taskOf file .start .history) * 3411712)
       by zero e = rounds-bound file table buffer e
       by (suc n) e = rw (refusal-returns file table buffer (suc n) (omega arith) e) (omega arith, omega arith)
 
@@ -585,6 +585,7 @@ module _ (c : Contest) (kinds-differ : kindOf (c .kept) ≢ kindOf (c .lost)) wh
         lost-exactly = lost-least;
         kept-exactly = kept-none;
         rounds-within-positions = λ file table buffer. bounds file table buffer .0;
+        positions-of-a-size = λ file read. size-most (c .rules) file (read-answer file read);
         positions-at-most = λ file table buffer. bounds file table buffer .1;
         accepted-shows-of-numbers = shows-of-numbers;
       }

@@ -1,12 +1,18 @@
 -- What a verdict on a task's bytes says of the task that they hold. Assumes nothing.
-use Prim.Native.Nat.{ℕ, _≤_, _<_, _^_}
+use Prim.Native.Nat.{ℕ, _*_, _-_, _≤_, _<_, _^_}
 use mathlib.Core.Path.{_≡_, refl, sym, _∙_, ap}
+use mathlib.Core.Bool.{true}
 use mathlib.Core.List.{List}
 use native.Mathlib.Omega.{arith}
 use lib.ListN.{length, take, drop}
 use lib.Seq.{take-at}
+use Rattle.fra.specs.Lists.{_∈_, Unique}
 use Rattle.fra.specs.Rules.{Rules}
-use Rattle.fra.specs.Reach.{reached, rounds}
+use Rattle.fra.specs.Position.{legal}
+use Rattle.fra.specs.Reach.{Reached, reached, rounds}
+use Rattle.fra.specs.Valid.{Valid}
+use Rattle.fra.specs.declared.Position.{Position}
+use Rattle.fra.specs.declared.Task.{Task}
 use Rattle.fra.specs.declared.Side.the-variants.{Left, Right}
 use Rattle.fra_laws.proofs.Tests.{clash}
 use Rattle.task.specs.TaskFile.{readTask, taskOf, maxRegisters}
@@ -20,8 +26,8 @@ use Rattle.outcome.specs.Check.{checkTask, checkRead, check}
 use Rattle.outcome.specs.declared.Verdict.{Verdict}
 use Rattle.outcome.specs.declared.Check.the-variants.{Refused as Rejected}
 use Rattle.outcome.specs.declared.Comparison.the-variants.{Decided, Refused}
-use Rattle.fra_laws.proofs.LegalPositions.{most-positions}
-use Rattle.fra_laws.proofs.Reached.{reached-unique, reached-legal}
+use Rattle.fra_laws.proofs.LegalPositions.{most-positions, most-positions-from}
+use Rattle.fra_laws.proofs.Reached.{history-grows, reached-exactly, reached-unique, reached-legal}
 use Rattle.task_laws.proofs.ReadValid.{read-valid, read-limits}
 use Rattle.outcome_laws.proofs.Compare.{Says, verdict-says}
 
@@ -78,12 +84,32 @@ module _ (c : Contest) (file certificate : List ℕ) where
   unfolding check checkRead
   checked-unread n e = rw e
 
--- the count of positions reached is at most the count of legal ones, and fits four bytes
-pub count-most : (g : Rules) (file : List ℕ) → readTask file .answer ≡ Read → length (reached g (taskOf file)) ≤ 3411712
-count-most g file read =
-    let valid = read-valid file read in
-    most-positions valid (read-limits file read Left .0) (read-limits file read Right .0) (reached g (taskOf file))
-    (reached-unique valid g) (reached-legal valid g)
+-- ── How many positions are reached ──
+
+module _ (g : Rules) (file : List ℕ) (read : readTask file .answer ≡ Read) where
+  abbrev t : Task
+  t = taskOf file
+
+  valid : Valid maxRegisters t
+  valid = read-valid file read
+
+  is-legal : (p : Position) → Reached g t p → legal maxRegisters t p ≡ true
+  is-legal p c = reached-legal valid g p (reached-exactly valid g p .1 c)
+
+  -- of one history size
+  pub size-most : (size : ℕ) (l : List Position) → Unique l → ((p : Position) → p ∈ l → Reached g t p × (p .history ≡ size))
+      → length l ≤ 3411712
+  size-most size l u h =
+      most-positions valid (read-limits file read Left .0) (read-limits file read Right .0) size l u
+      (λ p m. let (c, e) = h p m in (is-legal p c, e))
+
+  -- of all sizes from the start's on
+  pub count-most : length (reached g t) ≤ (14 - t .start .history) * 3411712
+  count-most =
+      most-positions-from valid (read-limits file read Left .0) (read-limits file read Right .0) (t .start .history)
+      (reached g t)
+      (reached-unique valid g)
+      (λ p m. (reached-legal valid g p m, history-grows g t (reached-exactly valid g p .0 m)))
 
 pub count-fits : (g : Rules) (file : List ℕ) → readTask file .answer ≡ Read → length (reached g (taskOf file)) < 2 ^ 32
 count-fits g file read = let most = count-most g file read in omega arith

@@ -3,12 +3,13 @@
 -- it leaves in the bytes that it was lent. proofs/Kept.antt shows that they hold of `equality` (EQUAL and DIFFER) and of `oneWay`
 -- (FOLLOWS and FALLS SHORT), the comparisons that the library makes, and that the functions which people call end on every input
 -- and return what is named here. `BothComparisons` at the end says how the two go together.
-use Prim.Native.Nat.{ℕ, _≤_, _<_}
+use Prim.Native.Nat.{ℕ, _*_, _-_, _≤_, _<_}
 use mathlib.Core.Path.{_≡_}
 use mathlib.Core.Logic.{_⊎_, _↔_}
 use mathlib.Core.Bool.{true}
 use mathlib.Core.List.{List, _∷_}
 use lib.ListN.{length, take}
+use Rattle.fra.specs.Lists.{_∈_, Unique}
 use Rattle.fra.specs.Game.{lostWithin, NeverLost, Bisimulation}
 use Rattle.fra.specs.Reach.{Reached}
 use Rattle.fra.specs.Exchange.{exchanged}
@@ -161,8 +162,15 @@ pub record Demand3 (c : Contest) : Type 0 where
   -- The rounds never exceed the count of positions reached,
   pub rounds-within-positions : (file table buffer : List ℕ)
       → returned c file table buffer .rounds ≤ returned c file table buffer .positions
-  -- which is at most 3,411,712.
-  pub positions-at-most : (file table buffer : List ℕ) → returned c file table buffer .positions ≤ 3411712
+  -- "01's greatest number of positions now holds for each history size": of one size, no more are reached than 3,411,712.
+  pub positions-of-a-size : (file : List ℕ) → IsRead file
+      → (size : ℕ) (l : List Position) → Unique l
+      → ((p : Position) → p ∈ l → Reached (c .rules) (taskOf file) p × (p .history ≡ size))
+      → length l ≤ 3411712
+  -- Sizes never fall, and 13 is the greatest: so the count is at most that for each size from the start's on, and 3,411,712 where no
+  -- size is stated.
+  pub positions-at-most : (file table buffer : List ℕ)
+      → returned c file table buffer .positions ≤ (14 - taskOf file .start .history) * 3411712
   -- An accepted certificate, whoever wrote it, shows that no count is enough, or that the listed rounds are.
   pub accepted-shows-of-numbers : (file : List ℕ) (certificate : List Byte)
       → (s : Setting) → Opening maxRegisters (taskOf file) s

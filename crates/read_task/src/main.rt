@@ -67,6 +67,7 @@ fn print_position(p: Position) {
     print_pair(partners[0], partners[1]);
     print_pair(partners[2], partners[3]);
     print_pair(partners[4], partners[5]);
+    print(p.history);
 }
 
 // The longest input that is read.

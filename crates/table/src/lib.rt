@@ -1,5 +1,5 @@
 // The lent table (01, "Verdict, table, certificate"). While positions are explored an entry holds three words, the first of them
-// a position's key; afterwards it holds the position's eight bytes and its rounds.
+// a position's key, and a spare byte; afterwards it holds the position's bytes and its rounds.
 use fra::Model;
 use fra::Position;
 use listing::put_position;
@@ -18,10 +18,12 @@ ghost use Rattle.listing.specs.Widths.{entryWidth};
 ghost use Rattle.table_laws.specs.Keys.{keyOf, keyLimit, positionFrom};
 ghost use Rattle.table_laws.specs.Table.{keys, laidOut, row};
 
-// The bases of a key's digits: the first two are states, the others partners.
+// The bases of a key's digits: the first two are states, the last one the history's size, the others partners.
 pub const STATE_BASE: u32 = 16;
 
 pub const PARTNER_BASE: u32 = 8;
+
+pub const HISTORY_BASE: u32 = 16;
 
 // Fills the table with zeros.
 pub fn clear(table: &mut [u8])
@@ -42,25 +44,26 @@ pub fn clear_from(table: &mut [u8], at: usize)
     clear(&mut table[at..]);
 }
 
-// The key of a position.
+// The key of a position; one that is legal in no task has one too, which may be another's.
 pub fn key(p: Position) -> u32
     ensures { λ r. ⌜ (r ≡ keyOf p) × (r < keyLimit) ⌝ }
 {
     let partners = p.partners;
-    let mut key = (p.left as u32) * STATE_BASE + (p.right as u32);
+    let mut key = (p.left as u32) % STATE_BASE * STATE_BASE + (p.right as u32) % STATE_BASE;
     let mut i: u8 = 0;
     while i < Model::REGISTERS {
         key = key * PARTNER_BASE + (partners[i as usize] as u32);
         i += 1;
     }
-    key
+    key * HISTORY_BASE + (p.history as u32)
 }
 
 // The position that a key packs: its digits are divided out, the last one first.
 pub fn position(key: u32) -> Position
     ensures { λ r. ⌜ r ≡ positionFrom key ⌝ }
 {
-    let to_fifth = key / PARTNER_BASE;
+    let to_sixth = key / HISTORY_BASE;
+    let to_fifth = to_sixth / PARTNER_BASE;
     let to_fourth = to_fifth / PARTNER_BASE;
     let to_third = to_fourth / PARTNER_BASE;
     let to_second = to_third / PARTNER_BASE;
@@ -72,12 +75,13 @@ pub fn position(key: u32) -> Position
         (to_third % PARTNER_BASE) as u8,
         (to_fourth % PARTNER_BASE) as u8,
         (to_fifth % PARTNER_BASE) as u8,
-        (key % PARTNER_BASE) as u8,
+        (to_sixth % PARTNER_BASE) as u8,
     ];
     Position {
         left: (states / STATE_BASE % STATE_BASE) as u8,
         right: (states % STATE_BASE) as u8,
         partners,
+        history: (key % HISTORY_BASE) as u8,
     }
 }
 

@@ -1,5 +1,5 @@
 -- Entries in their final layout, "position, then rounds": how they are written, and how keys are laid out. Assumes nothing.
-use Prim.Native.Nat.{ℕ, suc, _+_, _*_, _≤_}
+use Prim.Native.Nat.{ℕ, _+_, _*_, _≤_}
 use mathlib.Core.Path.{_≡_, refl, sym, _∙_, ap}
 use mathlib.Core.List.{List, [], _∷_, _++_, flatMap, append-assoc, append-nil}
 use native.Mathlib.Omega.{arith}
@@ -9,16 +9,17 @@ use Rattle.fra.specs.Position.{bytes}
 use Rattle.fra.specs.declared.Position.{Position}
 use Rattle.fra_laws.proofs.FixedWidth.{records-length}
 use Rattle.outcome.specs.Bytes.{word, wordAt, allOnes}
-use Rattle.listing.specs.Widths.{entryWidth}
+use Rattle.listing.specs.Widths.{wordWidth, entryWidth}
 use Rattle.listing.specs.Digits.{digits}
 use Rattle.listing.proofs.WordLaws.{word-drop}
+use Rattle.listing.proofs.PositionNumbers.{bytes-length}
 use Rattle.table_laws.specs.Keys.{positionWith, positionFrom}
 use Rattle.table_laws.specs.Table.{keyAt, keys, row, laidOut}
 use Rattle.table_laws.proofs.KeyColumn.{keys-length, keys-more}
 
 pub row-length : (p : Position) (n : ℕ) → length (p .partners) ≡ 6 → length (row p n) ≡ entryWidth
-unfolding row bytes word
-row-length p n e = length-append (bytes p) (word n) ∙ ap (λ (k : ℕ). suc (suc k) + 4) e
+unfolding row word
+row-length p n e = length-append (bytes p) (word n) ∙ ap (λ (k : ℕ). k + wordWidth) (bytes-length p e)
 
 -- ── Keys laid out ──
 

@@ -11,17 +11,30 @@ stateBase = 16
 abbrev pub partnerBase : ℕ
 partnerBase = 8
 
+-- a history's size takes a digit of base 16, the last one, so that keys rise as positions do
+abbrev pub historyBase : ℕ
+historyBase = 16
+
+-- the states in one number; each is cut to a digit, so that every position of bytes has a key
+abbrev pub statesOf : Position → ℕ
+statesOf p = p .left % stateBase * stateBase + p .right % stateBase
+
 -- ((left * 16 + right) * 8 + first partner) * 8 + ..
+abbrev pub frontOf : Position → ℕ
+frontOf p = value partnerBase (statesOf p) (p .partners)
+
+-- the key: these digits, and then the history's size
 unfoldable pub keyOf : Position → ℕ
-keyOf p = value partnerBase (p .left * stateBase + p .right) (p .partners)
+keyOf p = frontOf p * historyBase + p .history
 
 -- the position of r registers that a key packs
 unfoldable pub positionWith : ℕ → ℕ → Position
 positionWith r k =
     record {
-      left = k / partnerBase ^ r / stateBase % stateBase;
-      right = k / partnerBase ^ r % stateBase;
-      partners = digits partnerBase r k;
+      left = k / historyBase / partnerBase ^ r / stateBase % stateBase;
+      right = k / historyBase / partnerBase ^ r % stateBase;
+      partners = digits partnerBase r (k / historyBase);
+      history = k % historyBase;
     }
 
 -- the same for the six registers of a table
@@ -37,3 +50,4 @@ pub record Small (p : Position) : Type 0 where
   pub left : p .left < stateBase
   pub right : p .right < stateBase
   pub partners : Below partnerBase (p .partners)
+  pub history : p .history < historyBase

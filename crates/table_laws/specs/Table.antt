@@ -1,5 +1,5 @@
--- The lent table, "12 bytes an entry". While positions are explored an entry holds three words of four bytes, the first of them
--- the key of a position; afterwards it holds "position, then rounds".
+-- The lent table; 02, ticket 2: "Table entries become 13 bytes". While positions are explored an entry holds three words of four
+-- bytes, the first of them the key of a position, and a spare byte; afterwards it holds "position, then rounds".
 use Prim.Native.Nat.{ℕ, suc, _*_}
 use mathlib.Core.List.{List, [], _∷_, _++_, map, flatMap}
 use Rattle.fra.specs.Lists.{count}

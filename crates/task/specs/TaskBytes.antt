@@ -2,6 +2,7 @@
 -- Nothing here goes by way of the reader.
 use Prim.Native.Nat.{ℕ, zero, suc, _≤_, _<_}
 use mathlib.Core.Path.{_≡_}
+use mathlib.Core.Bool.{cond}
 use mathlib.Core.List.{List, [], _∷_, _++_, map, flatMap}
 use lib.ListN.{length, getD}
 use Rattle.fra.specs.Lists.{count}
@@ -10,7 +11,7 @@ use Rattle.fra.specs.Valid.{Valid}
 use Rattle.fra.specs.declared.Edge.{Edge}
 use Rattle.fra.specs.declared.Model.{Model}
 use Rattle.fra.specs.declared.Task.{Task}
-use Rattle.task.specs.Records.{Record, header, state, edge, pair, end, encode}
+use Rattle.task.specs.Records.{Record, header, state, edge, pair, history, end, encode}
 use Rattle.task.specs.TaskFile.{maxRegisters, maxStates, tagCount, maxEdges}
 
 -- ── The records of a task ──
@@ -37,8 +38,12 @@ pairRecords i [] = []
 pairRecords i (zero ∷ partners) = pairRecords (suc i) partners
 pairRecords i (suc j ∷ partners) = pair i (suc j) ∷ pairRecords (suc i) partners
 
--- "In order: the left model (..), the right model likewise, pairs, end." What a file has between its pairs and its end is
--- given; 01 has nothing there.
+-- 02, ticket 2: "A record of kind 5, one byte, may stand after the pairs and gives the history's size": the task says whether it
+-- stands there
+unfoldable pub historyRecords : Task → List Record
+historyRecords t = cond (t .«history_stated») (history (t .start .history) ∷ []) []
+
+-- "In order: the left model (..), the right model likewise, pairs, end." What a file has between its pairs and its end is given.
 unfoldable pub taskRecords : (ℕ → Edge → Record) → List Record → Task → List Record
 taskRecords recordOf further t =
     modelRecords recordOf (t .left)
@@ -49,7 +54,7 @@ taskRecords recordOf further t =
 
 -- the bytes of a task
 unfoldable pub encodeTask : Task → List ℕ
-encodeTask t = flatMap encode (taskRecords edgeRecord [] t)
+encodeTask t = flatMap encode (taskRecords edgeRecord (historyRecords t) t)
 
 -- ── The tasks that a file can hold ──
 

@@ -9,7 +9,7 @@ use lib.Dec.{ltb, leb, eqb}
 use Rattle.fra.specs.Lists.{any, below}
 use Rattle.fra.specs.Registers.{has, inside, with}
 use Rattle.fra.specs.Model.{noState, noEdge, setOf, edgeOf, kindOf, edgeBytes}
-use Rattle.fra.specs.Position.{unmatched}
+use Rattle.fra.specs.Position.{unmatched, mostSeen, held}
 use Rattle.fra.specs.Rules.{modelOf}
 use Rattle.fra.specs.declared.EdgeKind.{EdgeKind}
 use Rattle.fra.specs.declared.EdgeKind.the-variants.{Known, LocallyFresh, GloballyFresh}
@@ -19,7 +19,7 @@ use Rattle.fra.specs.declared.Task.{Task}
 use Rattle.fra.specs.declared.Side.{Side}
 use Rattle.fra.specs.declared.Side.the-variants.{Left, Right}
 use Rattle.task.specs.declared.Stage.{Stage}
-use Rattle.task.specs.declared.Stage.the-variants.{Start, States, Edges, Pairs, Ended}
+use Rattle.task.specs.declared.Stage.the-variants.{Start, States, Edges, Pairs, Sized, Ended}
 use Rattle.task.specs.declared.Progress.{Progress}
 use Rattle.task.specs.declared.Stepped.{Stepped}
 use Rattle.task.specs.declared.Answer.{Answer}
@@ -54,7 +54,7 @@ noModel =
     }
 
 unfoldable pub noTask : Task
-noTask = record { left = noModel; right = noModel; start = unmatched maxRegisters 0 0 }
+noTask = record { left = noModel; right = noModel; start = unmatched maxRegisters 0 0; «history_stated» = false }
 
 unfoldable pub atStart : Progress
 atStart = record { stage = Start; task = noTask }
@@ -67,8 +67,10 @@ refuse n s = record { refusal = n; progress = s }
 
 -- the task with another model on a side
 abbrev pub withModel : Task → Side → Model → Task
-withModel t Left m = record { left = m; right = t .right; start = t .start }
-withModel t Right m = record { left = t .left; right = m; start = t .start }
+withModel t Left m =
+    record { left = m; right = t .right; start = t .start; «history_stated» = t .«history_stated» }
+withModel t Right m =
+    record { left = t .left; right = m; start = t .start; «history_stated» = t .«history_stated» }
 
 -- ── "1, header: registers, states, start state." ──
 
@@ -91,8 +93,14 @@ headed registers states start =
 
 -- the header of a side's model; the right one's fixes the start position, still without pairs
 unfoldable pub withHeader : Task → Side → Model → Task
-withHeader t Left m = record { left = m; right = t .right; start = t .start }
-withHeader t Right m = record { left = t .left; right = m; start = unmatched maxRegisters (t .left .start) (m .start) }
+withHeader t Left m = withModel t Left m
+withHeader t Right m =
+    record {
+      left = t .left;
+      right = m;
+      start = unmatched maxRegisters (t .left .start) (m .start);
+      «history_stated» = t .«history_stated»;
+    }
 
 unfoldable pub headerAt : Side → Progress → List ℕ → Stepped
 headerAt s p body =
@@ -223,7 +231,13 @@ withPair t l r =
       left = t .left;
       right = t .right;
       start =
-          record { left = t .start .left; right = t .start .right; partners = set (t .start .partners) (l - 1) r };
+          record {
+            left = t .start .left;
+            right = t .start .right;
+            partners = set (t .start .partners) (l - 1) r;
+            history = t .start .history;
+          };
+      «history_stated» = t .«history_stated»;
     }
 
 unfoldable pub pairAt : Progress → List ℕ → Stepped
@@ -233,13 +247,41 @@ pairAt p body =
       | suc n ↦ refuse (suc n) p
     ]
 
+-- ── 02, ticket 2: "A record of kind 5, one byte, may stand after the pairs and gives the history's size" ──
+
+-- "15: the size is above 13 or less than the numbers held together at the start"
+unfoldable pub historyRefusal : Task → ℕ → ℕ
+historyRefusal t size = cond (ltb (mostSeen maxRegisters) size || ltb size (held t (t .start))) 15 0
+
+unfoldable pub withHistory : Task → ℕ → Task
+withHistory t size =
+    record {
+      left = t .left;
+      right = t .right;
+      start =
+          record {
+            left = t .start .left;
+            right = t .start .right;
+            partners = t .start .partners;
+            history = size;
+          };
+      «history_stated» = true;
+    }
+
+unfoldable pub historyAt : Progress → List ℕ → Stepped
+historyAt p body =
+    elim (historyRefusal (p .task) (getD body 0 0)) [
+      | zero ↦ next (record { stage = Sized; task = withHistory (p .task) (getD body 0 0) })
+      | suc n ↦ refuse (suc n) p
+    ]
+
 -- ── "15, end: no body." ──
 
 unfoldable pub endAt : Progress → Stepped
 endAt p = next (record { stage = Ended; task = p .task })
 
 -- ── Places: "In order: the left model (header, its states in rising number, its edges), the right model likewise, pairs,
--- end." A record out of place: 3. ──
+-- end." The history's size stands between pairs and end. A record out of place: 3. ──
 
 unfoldable pub header : Stage → Progress → List ℕ → Stepped
 header Start p body = headerAt Left p body
@@ -247,6 +289,7 @@ header (States s q) p body = refuse 3 p
 header (Edges Left) p body = headerAt Right p body
 header (Edges Right) p body = refuse 3 p
 header Pairs p body = refuse 3 p
+header Sized p body = refuse 3 p
 header Ended p body = refuse 3 p
 
 unfoldable pub state : Stage → Progress → List ℕ → Stepped
@@ -254,6 +297,7 @@ state Start p body = refuse 3 p
 state (States s q) p body = stateAt s q p body
 state (Edges s) p body = refuse 3 p
 state Pairs p body = refuse 3 p
+state Sized p body = refuse 3 p
 state Ended p body = refuse 3 p
 
 unfoldable pub edge : Stage → Progress → List ℕ → Stepped
@@ -261,6 +305,7 @@ edge Start p body = refuse 3 p
 edge (States s q) p body = refuse 3 p
 edge (Edges s) p body = edgeAt s p body
 edge Pairs p body = refuse 3 p
+edge Sized p body = refuse 3 p
 edge Ended p body = refuse 3 p
 
 unfoldable pub pair : Stage → Progress → List ℕ → Stepped
@@ -269,7 +314,17 @@ pair (States s q) p body = refuse 3 p
 pair (Edges Left) p body = refuse 3 p
 pair (Edges Right) p body = pairAt p body
 pair Pairs p body = pairAt p body
+pair Sized p body = refuse 3 p
 pair Ended p body = refuse 3 p
+
+unfoldable pub history : Stage → Progress → List ℕ → Stepped
+history Start p body = refuse 3 p
+history (States s q) p body = refuse 3 p
+history (Edges Left) p body = refuse 3 p
+history (Edges Right) p body = historyAt p body
+history Pairs p body = historyAt p body
+history Sized p body = refuse 3 p
+history Ended p body = refuse 3 p
 
 unfoldable pub end : Stage → Progress → Stepped
 end Start p = refuse 3 p
@@ -277,25 +332,28 @@ end (States s q) p = refuse 3 p
 end (Edges Left) p = refuse 3 p
 end (Edges Right) p = endAt p
 end Pairs p = endAt p
+end Sized p = endAt p
 end Ended p = refuse 3 p
 
 -- ── The file: "Records are one byte of kind, then a body whose length the kind fixes." ──
 
 -- the kinds of record
 pub data RecordKind : Type 0 where
-  isHeader isState isEdge isPair isEnd : RecordKind
+  isHeader isState isEdge isPair isHistory isEnd : RecordKind
 
 unfoldable pub recordKind : ℕ → Option RecordKind
 recordKind b =
     cond (eqb b 1) (some isHeader)
     (cond (eqb b 2) (some isState)
-    (cond (eqb b 3) (some isEdge) (cond (eqb b 4) (some isPair) (cond (eqb b 15) (some isEnd) none))))
+    (cond (eqb b 3) (some isEdge)
+    (cond (eqb b 4) (some isPair) (cond (eqb b 5) (some isHistory) (cond (eqb b 15) (some isEnd) none)))))
 
 unfoldable pub bodyLength : RecordKind → ℕ
 bodyLength isHeader = 3
 bodyLength isState = 3
 bodyLength isEdge = 5
 bodyLength isPair = 2
+bodyLength isHistory = 1
 bodyLength isEnd = 0
 
 unfoldable pub step : RecordKind → Progress → List ℕ → Stepped
@@ -303,6 +361,7 @@ step isHeader p body = header (p .stage) p body
 step isState p body = state (p .stage) p body
 step isEdge p body = edge (p .stage) p body
 step isPair p body = pair (p .stage) p body
+step isHistory p body = history (p .stage) p body
 step isEnd p body = end (p .stage) p
 
 abbrev pub refused : ℕ → TaskRead
@@ -314,10 +373,11 @@ atEnd p Start = refused 2
 atEnd p (States s q) = refused 2
 atEnd p (Edges s) = refused 2
 atEnd p Pairs = refused 2
+atEnd p Sized = refused 2
 atEnd p Ended = record { answer = Read; task = p .task }
 
 -- the rest of a file, of fewer than n records. In one record the first in checking order counts: 1, "The kind byte is not 1, 2, 3,
--- 4 or 15", then 2, "The file ends inside a body", then the record's own.
+-- 4 or 15" ("Kind 5 is no longer met by 1"), then 2, "The file ends inside a body", then the record's own.
 unfoldable pub readRest : ℕ → Progress → List ℕ → TaskRead
 readRest zero p l = refused 2
 readRest (suc n) p [] = atEnd p (p .stage)

@@ -1,5 +1,5 @@
-// The task file (01, "The task file" and "Turned back, in checking order"): bytes in, two models and a matching or a
-// refusal out.
+// The task file (01, "The task file" and "Turned back, in checking order"): bytes in, two models, a matching and the
+// history's size or a refusal out.
 use fra::Side;
 use fra::Task;
 
@@ -11,8 +11,10 @@ pub enum Stage {
     States(Side, u8),
     // an edge of this side, or what follows its model
     Edges(Side),
-    // a pair or the end
+    // a pair, the history's size or the end
     Pairs,
+    // the end, since the history's size is read
+    Sized,
     // nothing
     Ended,
 }
@@ -34,7 +36,7 @@ pub enum Answer {
     Refused(u8),
 }
 
-// A task that was read, or a refusal's number beside a task of zeros.
+// A task that was read, or a refusal's number beside a task that holds nothing.
 pub struct TaskRead {
     pub answer: Answer,
     pub task: Task,

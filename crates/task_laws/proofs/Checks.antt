@@ -1,7 +1,7 @@
 -- What is known of a record that its check lets pass, and that the check lets such a record pass. Assumes nothing.
 use Prim.Native.Nat.{ℕ, suc, _^_, _≤_, _<_}
 use mathlib.Core.Path.{_≡_, refl}
-use mathlib.Core.Bool.{Bool, true, false, not, cond}
+use mathlib.Core.Bool.{Bool, true, false, not, cond, _||_}
 use mathlib.Core.List.{[], _∷_}
 use native.Mathlib.Omega.{arith}
 use lib.Dec.{ltb, leb, eqb}
@@ -9,9 +9,11 @@ use borrow.Author.Tests.{ltb-true, ltb-false, leb-true, leb-false, eqb-true, not
 use Rattle.fra.specs.Lists.{any}
 use Rattle.fra.specs.Registers.{has}
 use Rattle.fra.specs.Model.{setOf, kindOf}
+use Rattle.fra.specs.Position.{mostSeen, held}
 use Rattle.fra.specs.declared.Model.{Model}
 use Rattle.fra.specs.declared.Task.{Task}
-use Rattle.task.specs.TaskFile.{maxRegisters, maxStates, tagCount, maxEdges, headerRefusal, stateRefusal, edgeExists, keepsRule, rises, edgeRefusal, rising, pairRefusal}
+use Rattle.fra_laws.proofs.Tests.{or-false-left, or-false-right}
+use Rattle.task.specs.TaskFile.{maxRegisters, maxStates, tagCount, maxEdges, headerRefusal, stateRefusal, edgeExists, keepsRule, rises, edgeRefusal, rising, pairRefusal, historyRefusal}
 use Rattle.task_laws.proofs.SeveralTests.{none-of-three, none-of-four, all-of-six}
 
 -- a check that refuses nothing: its test fails, and so does what comes after it
@@ -149,3 +151,23 @@ pair-fits t l r h =
 pub pair-passes : {t : Task} {l r : ℕ} → PairFits t l r → pairRefusal t l r ≡ 0
 unfolding pairRefusal
 pair-passes f = rw (f .left, f .right, f .rises, f .unused)
+
+-- a history of this size has room for the numbers held at the start, and is not above the greatest
+pub record HistoryFits (t : Task) (size : ℕ) : Type 0 where
+  pub least : held t (t .start) ≤ size
+  pub most : size ≤ mostSeen maxRegisters
+
+pub history-fits : (t : Task) (size : ℕ) → historyRefusal t size ≡ 0 → HistoryFits t size
+unfolding historyRefusal
+history-fits t size e =
+    let above = ltb (mostSeen maxRegisters) size in
+    let short = ltb size (held t (t .start)) in
+    let none = passed (above || short) 14 0 e .0 in
+    record {
+      least = ltb-false size (held t (t .start)) (or-false-right above short none);
+      most = ltb-false (mostSeen maxRegisters) size (or-false-left above short none);
+    }
+
+pub history-passes : {t : Task} {size : ℕ} → HistoryFits t size → historyRefusal t size ≡ 0
+unfolding historyRefusal
+history-passes {t} {size} f = rw (le-ltb (mostSeen maxRegisters) size (f .most), le-ltb size (held t (t .start)) (f .least))

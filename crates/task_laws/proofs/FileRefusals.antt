@@ -8,7 +8,7 @@ use lib.ListN.{length}
 use Rattle.task.specs.Records.{Record, encode, NoEnd, number, order, Body, Obeyed, nothing, another, TurnedBack}
 use Rattle.task.specs.TaskFile.{atStart, refused, bodyLength, readTask}
 use Rattle.task.specs.declared.Stage.{Stage}
-use Rattle.task.specs.declared.Stage.the-variants.{Start, States, Edges, Pairs, Ended}
+use Rattle.task.specs.declared.Stage.the-variants.{Start, States, Edges, Pairs, Sized, Ended}
 use Rattle.task.specs.declared.Progress.{Progress}
 use Rattle.task.specs.declared.Answer.the-variants.{Refused}
 use Rattle.task.specs.declared.TaskRead.{TaskRead}
@@ -60,9 +60,10 @@ obeyed-run {file} (another {l = l} {rest = rest} x o rules) = let w = obeyed-run
 -- either the last stage is reached, or no end record is read
 ended-or-not : (stage : Stage) (l : List Record) → AtStage stage l → (stage ≡ Ended) ⊎ NoEnd l
 ended-or-not Start l h = inr (λ m. List·Memᴰ·not-nil (rw h at m))
-ended-or-not (States s q) l h = inr (h .no-end)
-ended-or-not (Edges s) l h = inr (h .no-end)
+ended-or-not (States s q) l h = inr (h .only .no-end)
+ended-or-not (Edges s) l h = inr (h .only .no-end)
 ended-or-not Pairs l h = inr (h .no-end)
+ended-or-not Sized l h = inr (h .no-end)
 ended-or-not Ended l h = inl refl
 
 -- ── Each refusal in its case and in no other ──
@@ -138,6 +139,6 @@ turned-back-refused file n (inr (inr (rule, e, b))) =
         let same = ap number (order-injective other rule (omega arith)) in
         omega (arith, number-least rule)
 
--- Refusal n is the answer exactly in the case that 01 names for it.
+-- Refusal n is the answer exactly in the case that the papers name for it.
 pub refused-exactly : (file : List ℕ) (n : ℕ) → (readTask file .answer ≡ Refused n) ↔ TurnedBack n file
 refused-exactly file n = (refused-turned-back file n, turned-back-refused file n)

@@ -13,21 +13,22 @@ use Rattle.fra.specs.Lists.{any, below}
 use Rattle.fra.specs.Registers.{has, inside, with}
 use Rattle.fra.specs.Model.{setOf, kindOf}
 use Rattle.fra.specs.Valid.{RegisterRule}
-use Rattle.fra.specs.Position.{rightPartner}
+use Rattle.fra.specs.Position.{rightPartner, mostSeen, held}
 use Rattle.fra.specs.declared.Model.{Model}
 use Rattle.fra.specs.declared.Task.{Task}
-use Rattle.task.specs.TaskFile.{maxRegisters, maxStates, tagCount, maxEdges, headerRefusal, stateRefusal, edgeExists, keepsRule, rises, edgeRefusal, rising, pairRefusal}
+use Rattle.task.specs.TaskFile.{maxRegisters, maxStates, tagCount, maxEdges, headerRefusal, stateRefusal, edgeExists, keepsRule, rises, edgeRefusal, rising, pairRefusal, historyRefusal}
 use borrow.Author.Tests.{ltb-true, ltb-false, eq-eqb, leb-true, leb-false, eqb-true, eqb-false, not-true, not-false}
 use Rattle.task_laws.proofs.SeveralTests.{some-of-three, some-of-four, not-all-of-six}
 use Rattle.task_laws.proofs.RegisterBits.{has-below, has-above, inside-false}
 use Rattle.task_laws.proofs.Arrays.{any-at, any-index}
-use Rattle.task_laws.proofs.Checks.{HeaderFits, header-fits, StateFits, state-fits, EdgeExists, edge-exists, PairFits, pair-fits}
+use Rattle.task_laws.proofs.Checks.{HeaderFits, header-fits, StateFits, state-fits, EdgeExists, edge-exists, PairFits, pair-fits, HistoryFits, history-fits}
 use Rattle.task_laws.proofs.Models.{Whole, rule-kept}
 use Rattle.task_laws.proofs.RecordsRead.{rising-zeros}
 use Rattle.task_laws.proofs.Ties.{Written, Paired}
-use Rattle.fra_laws.proofs.Tests.{and-false, not-both, passes-or-fails}
+use Rattle.task_laws.proofs.HeldAtStart.{start-set}
+use Rattle.fra_laws.proofs.Tests.{and-false, or-cases, not-both, passes-or-fails}
 use Rattle.fra_laws.proofs.Registers.{has-positive}
-use Rattle.task.specs.Records.{Record, header, state, edge, pair, end, Allowed, statesRead, registers, states, setIn, earlier, start, startSet, Rule, place, header-rule, state-rule, existence, register-rule, edge-order, edge-limit, pair-rule, number, order, HeaderFault, StateFault, Nonexistence, RegisterFault, KindFault, OrderFault, LimitFault, PairFault, Breaks}
+use Rattle.task.specs.Records.{Record, header, state, edge, pair, history, end, Allowed, statesRead, registers, states, earlier, startSet, heldAtStart, Rule, place, header-rule, state-rule, existence, register-rule, edge-order, edge-limit, pair-rule, history-rule, number, order, HeaderFault, StateFault, Nonexistence, RegisterFault, KindFault, OrderFault, LimitFault, PairFault, HistoryFault, Breaks}
 
 -- ── The first rule that is broken ──
 
@@ -49,7 +50,8 @@ ruleOf (suc (suc (suc zero))) = existence
 ruleOf (suc (suc (suc (suc zero)))) = register-rule
 ruleOf (suc (suc (suc (suc (suc zero))))) = edge-order
 ruleOf (suc (suc (suc (suc (suc (suc zero)))))) = edge-limit
-ruleOf (suc (suc (suc (suc (suc (suc (suc n))))))) = pair-rule
+ruleOf (suc (suc (suc (suc (suc (suc (suc zero))))))) = pair-rule
+ruleOf (suc (suc (suc (suc (suc (suc (suc (suc n)))))))) = history-rule
 
 ruleOf-order : (rule : Rule) → ruleOf (order rule) ≡ rule
 unfolding ruleOf order
@@ -61,11 +63,12 @@ ruleOf-order register-rule = refl
 ruleOf-order edge-order = refl
 ruleOf-order edge-limit = refl
 ruleOf-order pair-rule = refl
+ruleOf-order history-rule = refl
 
 pub order-injective : (a b : Rule) → order a ≡ order b → a ≡ b
 order-injective a b e = sym (ruleOf-order a) ∙ ap ruleOf e ∙ ruleOf-order b
 
-order-last : (rule : Rule) → order rule ≤ order pair-rule
+order-last : (rule : Rule) → order rule ≤ order history-rule
 unfolding order
 order-last place = omega arith
 order-last header-rule = omega arith
@@ -75,6 +78,7 @@ order-last register-rule = omega arith
 order-last edge-order = omega arith
 order-last edge-limit = omega arith
 order-last pair-rule = omega arith
+order-last history-rule = omega arith
 
 -- 1 and 2 are no rules of a record
 pub number-least : (rule : Rule) → 3 ≤ number rule
@@ -87,6 +91,7 @@ number-least register-rule = omega arith
 number-least edge-order = omega arith
 number-least edge-limit = omega arith
 number-least pair-rule = omega arith
+number-least history-rule = omega arith
 
 module _ (l : List Record) (x : Record) where
   -- one rule more is not broken
@@ -107,7 +112,7 @@ module _ (l : List Record) (x : Record) where
   misplaced out = breaks place refl out (λ rule h. absurd (omega arith))
 
   -- no rule is broken
-  obeyed : Below (suc (order pair-rule)) l x → Judged l x 0
+  obeyed : Below (suc (order history-rule)) l x → Judged l x 0
   obeyed below = obeys refl (λ rule. below rule (omega (arith, order-last rule)))
 
   -- a test decides whether a rule is broken
@@ -139,17 +144,18 @@ header-kept f (inr (inr (inl h))) = omega arith
 header-kept f (inr (inr (inr h))) = omega arith
 
 pub header-judged : (l : List Record) (r n q : ℕ) → Allowed l (header r n q) → Judged l (header r n q) (headerRefusal r n q)
-unfolding headerRefusal number order Breaks StateFault Nonexistence KindFault OrderFault LimitFault PairFault
+unfolding headerRefusal number order Breaks StateFault Nonexistence KindFault OrderFault LimitFault PairFault HistoryFault
 header-judged l r n q allowed =
     let x = header r n q in
     check l x header-rule _ 0 (placed l x allowed) (header-faulty r n q)
     (λ e. header-kept (header-fits r n q (rw e)))
     (λ e below.
     obeyed l x
+    (pass l x history-rule (λ b. b)
     (pass l x pair-rule (λ b. b)
     (pass l x edge-limit (λ b. b)
     (pass l x edge-order (λ b. b)
-    (pass l x register-rule (λ b. b) (pass l x existence (λ b. b) (pass l x state-rule (λ b. b) below)))))))
+    (pass l x register-rule (λ b. b) (pass l x existence (λ b. b) (pass l x state-rule (λ b. b) below))))))))
 
 -- ── States ──
 
@@ -172,16 +178,17 @@ module _ (l : List Record) (m : Model) (q n set mark : ℕ) (due : statesRead l 
   state-kept f (inr (inr h)) = omega arith
 
   pub state-judged : Allowed l (state n set mark) → Judged l (state n set mark) (stateRefusal m q n set mark)
-  unfolding stateRefusal number order Breaks HeaderFault Nonexistence KindFault OrderFault LimitFault PairFault
+  unfolding stateRefusal number order Breaks HeaderFault Nonexistence KindFault OrderFault LimitFault PairFault HistoryFault
   state-judged allowed =
       let x = state n set mark in
       check l x state-rule _ 0
       (pass l x header-rule (λ b. b) (placed l x allowed)) state-faulty (λ e. state-kept (state-fits m q n set mark (rw e)))
       (λ e below.
       obeyed l x
+      (pass l x history-rule (λ b. b)
       (pass l x pair-rule (λ b. b)
       (pass l x edge-limit (λ b. b)
-      (pass l x edge-order (λ b. b) (pass l x register-rule (λ b. b) (pass l x existence (λ b. b) below))))))
+      (pass l x edge-order (λ b. b) (pass l x register-rule (λ b. b) (pass l x existence (λ b. b) below)))))))
 
 -- ── Edges ──
 
@@ -242,7 +249,7 @@ module _ (l : List Record) (m : Model) (from tag kind i to : ℕ) (w : Written l
 
   pub edge-judged : Whole m → Allowed l (edge from tag kind i to)
       → Judged l (edge from tag kind i to) (edgeRefusal m (from ∷ tag ∷ kind ∷ i ∷ to ∷ []))
-  unfolding edgeRefusal number order Breaks HeaderFault StateFault OrderFault LimitFault PairFault
+  unfolding edgeRefusal number order Breaks HeaderFault StateFault OrderFault LimitFault PairFault HistoryFault
   edge-judged whole allowed =
       check l x existence _ _
       (pass l x state-rule (λ b. b) (pass l x header-rule (λ b. b) (placed l x allowed)))
@@ -256,7 +263,8 @@ module _ (l : List Record) (m : Model) (from tag kind i to : ℕ) (w : Written l
       (λ e h. not-both _ (not-false _ e) (w .order from (tag ∷ kind ∷ i ∷ to ∷ []) ∙ h)) (λ e below.
       check l x edge-limit (leb maxEdges (m .«edge_count»)) 0 below
       (λ e. omega (arith, leb-true maxEdges (m .«edge_count») e, whole .valid .edge-places))
-      (λ e h. omega (arith, leb-false maxEdges (m .«edge_count») e)) (λ e below. obeyed l x (pass l x pair-rule (λ b. b) below)))))
+      (λ e h. omega (arith, leb-false maxEdges (m .«edge_count») e))
+      (λ e below. obeyed l x (pass l x history-rule (λ b. b) (pass l x pair-rule (λ b. b) below))))))
     where
       x : Record
       x = edge from tag kind i to
@@ -298,10 +306,6 @@ rising-above partners a (suc k) j h e p = at (decLt (suc k) a)
     at (yes d) = d
     at (no d) = absurd (omega (arith, rising-zeros partners a h k (omega arith)))
 
--- the register set of a model's start state
-start-set : (l : List Record) (m : Model) → Written l m → setOf m (m .start) ≡ startSet l
-start-set l m w = w .set-at (m .start) ∙ ap (setIn l) (w .start)
-
 module _ (l : List Record) (t : Task) (a b : ℕ) (left : Written (earlier l) (t .left)) (right : Written l (t .right))
     (paired : Paired l (t .start .partners)) where
   pair-faulty : (not (has (setOf (t .left) (t .left .start)) a) ≡ true)
@@ -334,7 +338,7 @@ module _ (l : List Record) (t : Task) (a b : ℕ) (left : Written (earlier l) (t
       not-both _ (any-at (eqb b) (t .start .partners) (v .0) 0 (v .2) (eq-eqb b _ (sym (v .3)))) (f .unused)
 
   pub pair-judged : Allowed l (pair a b) → Judged l (pair a b) (pairRefusal t a b)
-  unfolding pairRefusal number order Breaks HeaderFault StateFault Nonexistence KindFault OrderFault LimitFault
+  unfolding pairRefusal number order Breaks HeaderFault StateFault Nonexistence KindFault OrderFault LimitFault HistoryFault
   pair-judged allowed =
       let x = pair a b in
       check l x pair-rule _ 0
@@ -342,16 +346,47 @@ module _ (l : List Record) (t : Task) (a b : ℕ) (left : Written (earlier l) (t
       (pass l x edge-order (λ b. b)
       (pass l x register-rule (λ b. b)
       (pass l x existence (λ b. b) (pass l x state-rule (λ b. b) (pass l x header-rule (λ b. b) (placed l x allowed)))))))
-      (λ e. pair-faulty (some-of-four _ _ _ _ e)) (λ e. pair-kept (pair-fits t a b (rw e))) (λ e. obeyed l x)
+      (λ e. pair-faulty (some-of-four _ _ _ _ e)) (λ e. pair-kept (pair-fits t a b (rw e)))
+      (λ e below. obeyed l x (pass l x history-rule (λ b. b) below))
+
+-- ── The history's size ──
+
+module _ (l : List Record) (t : Task) (n : ℕ) (same : held t (t .start) ≡ heldAtStart l) where
+  history-faulty : (ltb (mostSeen maxRegisters) n || ltb n (held t (t .start))) ≡ true → HistoryFault l (history n)
+  unfolding HistoryFault
+  history-faulty h = at (or-cases _ _ h)
+    where
+      at : (ltb (mostSeen maxRegisters) n ≡ true) ⊎ (ltb n (held t (t .start)) ≡ true) → HistoryFault l (history n)
+      at (inl e) = inl (ltb-true (mostSeen maxRegisters) n e)
+      at (inr e) = inr (rw (← same) (ltb-true n (held t (t .start)) e))
+
+  history-kept : HistoryFits t n → HistoryFault l (history n) → ⊥
+  unfolding HistoryFault
+  history-kept f (inl h) = omega arith
+  history-kept f (inr h) = omega arith
+
+  pub history-judged : Allowed l (history n) → Judged l (history n) (historyRefusal t n)
+  unfolding historyRefusal number order Breaks HeaderFault StateFault Nonexistence KindFault OrderFault LimitFault PairFault
+  history-judged allowed =
+      let x = history n in
+      check l x history-rule _ 0
+      (pass l x pair-rule (λ b. b)
+      (pass l x edge-limit (λ b. b)
+      (pass l x edge-order (λ b. b)
+      (pass l x register-rule (λ b. b)
+      (pass l x existence (λ b. b) (pass l x state-rule (λ b. b) (pass l x header-rule (λ b. b) (placed l x allowed))))))))
+      history-faulty (λ e. history-kept (history-fits t n (rw e))) (λ e. obeyed l x)
 
 -- ── The end ──
 
 pub end-judged : (l : List Record) → Allowed l end → Judged l end 0
-unfolding number order Breaks HeaderFault StateFault Nonexistence KindFault OrderFault LimitFault PairFault
+unfolding number order Breaks HeaderFault StateFault Nonexistence KindFault OrderFault LimitFault PairFault HistoryFault
 end-judged l allowed =
     obeyed l end
+    (pass l end history-rule (λ b. b)
     (pass l end pair-rule (λ b. b)
     (pass l end edge-limit (λ b. b)
     (pass l end edge-order (λ b. b)
     (pass l end register-rule (λ b. b)
-    (pass l end existence (λ b. b) (pass l end state-rule (λ b. b) (pass l end header-rule (λ b. b) (placed l end allowed))))))))
+    (pass l end existence (λ b. b)
+    (pass l end state-rule (λ b. b) (pass l end header-rule (λ b. b) (placed l end allowed)))))))))

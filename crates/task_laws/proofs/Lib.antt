@@ -9,6 +9,7 @@ pub mod Models
 pub mod RecordsRead
 pub mod ReadValid
 pub mod Ties
+pub mod HeldAtStart
 pub mod Judging
 pub mod RecordSteps
 pub mod FileRefusals

@@ -15,18 +15,19 @@ use Rattle.fra.specs.declared.Model.{Model}
 use Rattle.fra.specs.declared.Task.{Task}
 use Rattle.fra.specs.declared.Side.{Side}
 use Rattle.fra.specs.declared.Side.the-variants.{Left, Right}
-use Rattle.task.specs.Records.{Record, header, state, edge, pair, end, headers, earlier, registers, states, start, statesRead, edgesRead, lastEdge, setIn, Complete, NoPair, NoEnd, Allowed}
+use Rattle.task.specs.Records.{Record, header, state, edge, pair, history, end, headers, earlier, registers, states, start, statesRead, edgesRead, lastEdge, setIn, Complete, NoHistory, NoEnd, Allowed}
 use Rattle.task.specs.TaskFile
-use Rattle.task.specs.TaskFile.{maxRegisters, withModel, headed, withHeader, withState, withPair, afterState, headerAt, stateAt, edgeAt, pairAt, endAt, headerRefusal, stateRefusal, edgeRefusal, pairRefusal, refuse}
+use Rattle.task.specs.TaskFile.{maxRegisters, withModel, headed, withHeader, withState, withPair, withHistory, afterState, headerAt, stateAt, edgeAt, pairAt, historyAt, endAt, headerRefusal, stateRefusal, edgeRefusal, pairRefusal, historyRefusal, refuse}
 use Rattle.task.specs.declared.Stage.{Stage}
-use Rattle.task.specs.declared.Stage.the-variants.{Start, States, Edges, Pairs, Ended}
+use Rattle.task.specs.declared.Stage.the-variants.{Start, States, Edges, Pairs, Sized, Ended}
 use Rattle.task.specs.declared.Progress.{Progress}
 use Rattle.task.specs.declared.Stepped.{Stepped}
 use Rattle.task_laws.proofs.RunsAndHalts.{stepAt, decided, decided-refusal, decided-passes}
 use Rattle.task_laws.proofs.Checks.{header-fits, state-fits, edge-fits, PairFits, pair-fits}
 use Rattle.task_laws.proofs.ReadValid.{Finished, pair-places, SoundAt, unpaired-finished, modelOf-withModel}
-use Rattle.task_laws.proofs.Ties.{Written, Paired, written-headed, written-withState, written-withEdge, paired-none, paired-other, paired-set, headersOf, TiedAt, Tied, no-pair-more, no-end-more, shape, Beside, Says}
-use Rattle.task_laws.proofs.Judging.{Judged, misplaced, header-judged, state-judged, edge-judged, rising-above, pair-judged, end-judged}
+use Rattle.task_laws.proofs.Ties.{Written, Paired, written-headed, written-withState, written-withEdge, paired-none, paired-other, paired-set, headersOf, ModelsOnly, AfterSize, TiedAt, Tied, not-more, only-more, shape, Beside, Says}
+use Rattle.task_laws.proofs.HeldAtStart.{held-said}
+use Rattle.task_laws.proofs.Judging.{Judged, misplaced, header-judged, state-judged, edge-judged, rising-above, pair-judged, history-judged, end-judged}
 
 -- ── What is correct ──
 
@@ -57,34 +58,27 @@ some-header Left = omega arith
 some-header Right = omega arith
 
 header-correct : (s : Side) (l : List Record) (p : Progress) (r n q : ℕ) → Allowed l (header r n q)
-    → suc (headers l) ≡ headersOf s → NoPair l → NoEnd l → Before s l (p .task)
+    → suc (headers l) ≡ headersOf s → ModelsOnly l → Before s l (p .task)
     → Correct l (header r n q) (headerAt s p (r ∷ n ∷ q ∷ []))
 unfolding headerAt withHeader headers statesRead states earlier
-header-correct s l p r n q allowed count no-pair no-end before =
+header-correct s l p r n q allowed count only before =
     checked (headerRefusal r n q) p _ (header-judged l r n q allowed)
     (λ z.
     let f = header-fits r n q z in
     record {
-      at-stage =
-          record {
-            side = count;
-            read = refl;
-            due = omega arith;
-            no-pair = no-pairs;
-            no-end = no-end-more (λ e. omega arith) no-end;
-          };
+      at-stage = record { side = count; read = refl; due = omega arith; only = still-only };
       says = says s before;
     })
   where
-    no-pairs : NoPair (header r n q ∷ l)
-    no-pairs = no-pair-more (λ e. omega arith) no-pair
+    still-only : ModelsOnly (header r n q ∷ l)
+    still-only = only-more (omega arith) only
 
     says : (s : Side) → Before s l (p .task) → Says s (header r n q ∷ l) (withHeader (p .task) s (headed r n q))
     says Left before = record { model = written-headed l r n q; beside = tt }
     says Right before =
         record {
           model = written-headed l r n q;
-          beside = record { left = before; paired = paired-none (header r n q ∷ l) maxRegisters no-pairs };
+          beside = record { left = before; paired = paired-none (header r n q ∷ l) maxRegisters (still-only .no-pair) };
         }
 
 -- a record of the model that is being read leaves what is beside it
@@ -106,11 +100,8 @@ state-correct s q p l n set mark h t =
     m : Model
     m = modelOf (p .task) s
 
-    no-pair : NoPair (state n set mark ∷ l)
-    no-pair = no-pair-more (λ e. omega arith) (t .at-stage .no-pair)
-
-    no-end : NoEnd (state n set mark ∷ l)
-    no-end = no-end-more (λ e. omega arith) (t .at-stage .no-end)
+    only : ModelsOnly (state n set mark ∷ l)
+    only = only-more (omega arith) (t .at-stage .only)
 
     says : n ≡ q → Says s (state n set mark ∷ l) (withModel (p .task) s (withState m q set mark))
     says due =
@@ -125,7 +116,7 @@ state-correct s q p l n set mark h t =
         let last = eqb-true (q + 1) (m .«state_count») d in
         record {
           at-stage =
-              record { side = t .at-stage .side; complete = omega (arith, t .says .model .states); no-pair = no-pair; no-end = no-end };
+              record { side = t .at-stage .side; complete = omega (arith, t .says .model .states); only = only };
           says = says due;
         }
     after false d due =
@@ -136,8 +127,7 @@ state-correct s q p l n set mark h t =
                 side = t .at-stage .side;
                 read = omega arith;
                 due = omega (arith, t .says .model .states);
-                no-pair = no-pair;
-                no-end = no-end;
+                only = only;
               };
           says = says due;
         }
@@ -150,17 +140,12 @@ edge-correct s p l from tag kind i to h t =
     let at = t .at-stage in
     checked (edgeRefusal m (from ∷ tag ∷ kind ∷ i ∷ to ∷ [])) p _
     (edge-judged l m from tag kind i to (t .says .model) (h .model)
-    (omega (arith, some-header s), at .complete, at .no-pair, at .no-end))
+    (omega (arith, some-header s), at .complete, at .only .no-pair, at .only .no-history, at .only .no-end))
     (λ z.
     let f = edge-fits m from tag kind i to z in
     record {
       at-stage =
-          record {
-            side = at .side;
-            complete = at .complete;
-            no-pair = no-pair-more (λ e. omega arith) (at .no-pair);
-            no-end = no-end-more (λ e. omega arith) (at .no-end);
-          };
+          record { side = at .side; complete = at .complete; only = only-more (omega arith) (at .only) };
       says =
           record {
             model =
@@ -187,7 +172,8 @@ pair-correct p l a b h allowed t =
             side = allowed .0;
             complete = allowed .1;
             some-pair = (a, b, List·Memᴰ·head refl);
-            no-end = no-end-more (λ e. omega arith) (allowed .2);
+            no-history = λ n. not-more (λ e. omega arith) (allowed .2 n);
+            no-end = not-more (λ e. omega arith) (allowed .3);
           };
       says =
           record {
@@ -205,6 +191,29 @@ pair-correct p l a b h allowed t =
         paired-set a b (w .0) (w .1) (w .2)
         (λ i j m. let old = t .beside .paired .joined i j m in rising-above partners a i j (f .rises) (old .1) (old .0))
         (t .beside .paired)
+
+history-correct : (p : Progress) (l : List Record) (n : ℕ) → Finished (p .task) → Allowed l (history n) → Says Right l (p .task)
+    → Correct l (history n) (historyAt p (n ∷ []))
+unfolding historyAt withHistory Allowed headers statesRead states earlier registers start edgesRead setIn lastEdge
+history-correct p l n h allowed t =
+    checked (historyRefusal (p .task) n) p _
+    (history-judged l (p .task) n (held-said h (t .beside .left) (t .model) (t .beside .paired)) allowed)
+    (λ z.
+    record {
+      at-stage =
+          record {
+            side = allowed .0;
+            complete = allowed .1;
+            some-history = (n, List·Memᴰ·head refl);
+            no-end = not-more (λ e. omega arith) (allowed .3);
+          };
+      says =
+          record {
+            model = t .model;
+            beside =
+                record { left = t .beside .left; paired = paired-other (history n) (λ d. omega arith) (t .beside .paired) };
+          };
+    })
 
 end-correct : (p : Progress) (l : List Record) → Allowed l end → Says Right l (p .task) → Correct l end (endAt p)
 unfolding endAt Allowed headers statesRead states earlier registers start edgesRead setIn lastEdge
@@ -235,43 +244,75 @@ late-header {l} {r} {n} {q} p later other = out-of-place p at
     at (inl e) = omega (arith, ap headers e)
     at (inr h) = other (h .0) (h .1)
 
+-- before all records
+nothing-read : {l : List Record} → l ≡ [] → ModelsOnly l
+nothing-read e =
+    record {
+      no-pair = λ a b m. List·Memᴰ·not-nil (rw e at m);
+      no-history = λ n m. List·Memᴰ·not-nil (rw e at m);
+      no-end = λ m. List·Memᴰ·not-nil (rw e at m);
+    }
+
+-- once the history's size is read there is a record of it
+after-size : {l : List Record} → AfterSize l → NoHistory l → ⊥
+after-size h no-history = let w = h .some-history in no-history (w .0) (w .1)
+
 -- once the end is the latest record there is an end
 pub after-end : {l k : List Record} → l ≡ end ∷ k → NoEnd l → ⊥
 after-end {l} {k} e no-end = no-end (subst (λ (j : List Record). end ∈ j) (sym e) (List·Memᴰ·head refl))
 
 pub step-correct : (x : Record) (stage : Stage) (p : Progress) (l : List Record) → SoundAt stage (p .task) → TiedAt stage l (p .task)
     → Correct l x (stepAt x stage p)
-unfolding TaskFile.header TaskFile.state TaskFile.edge TaskFile.pair TaskFile.end Allowed headers states
+unfolding TaskFile.header TaskFile.state TaskFile.edge TaskFile.pair TaskFile.history TaskFile.end Allowed headers states
 step-correct (header r n q) Start p l h t =
-    header-correct Left l p r n q (inl (t .at-stage)) (omega (arith, ap headers (t .at-stage)))
-    (λ a b m. List·Memᴰ·not-nil (rw (t .at-stage) at m)) (λ m. List·Memᴰ·not-nil (rw (t .at-stage) at m)) tt
+    header-correct Left l p r n q (inl (t .at-stage)) (omega (arith, ap headers (t .at-stage))) (nothing-read (t .at-stage)) tt
 step-correct (header r n q) (States s k) p l h t = late-header p (omega (arith, some-header s)) (λ one c. omega arith)
 step-correct (header r n q) (Edges Left) p l h t =
-    header-correct Right l p r n q (inr (t .at-stage .side, t .at-stage .complete)) (omega arith) (t .at-stage .no-pair)
-    (t .at-stage .no-end) (t .says .model)
+    header-correct Right l p r n q (inr (t .at-stage .side, t .at-stage .complete)) (omega arith) (t .at-stage .only)
+    (t .says .model)
 step-correct (header r n q) (Edges Right) p l h t = late-header p (omega arith) (λ one c. omega arith)
 step-correct (header r n q) Pairs p l h t = late-header p (omega arith) (λ one c. omega arith)
+step-correct (header r n q) Sized p l h t = late-header p (omega arith) (λ one c. omega arith)
 step-correct (header r n q) Ended p l h t = late-header p (omega arith) (λ one c. omega arith)
 step-correct (state n set mark) Start p l h t = out-of-place p (λ a. omega (arith, a, ap states (t .at-stage)))
 step-correct (state n set mark) (States s q) p l h t = state-correct s q p l n set mark h t
 step-correct (state n set mark) (Edges s) p l h t = out-of-place p (λ a. omega (arith, a))
 step-correct (state n set mark) Pairs p l h t = out-of-place p (λ a. omega (arith, a))
+step-correct (state n set mark) Sized p l h t = out-of-place p (λ a. omega (arith, a))
 step-correct (state n set mark) Ended p l h t = out-of-place p (λ a. omega (arith, a))
 step-correct (edge from tag kind i to) Start p l h t = out-of-place p (λ a. omega (arith, a .0, ap headers (t .at-stage)))
 step-correct (edge from tag kind i to) (States s q) p l h t = out-of-place p (λ a. omega (arith, a .1))
 step-correct (edge from tag kind i to) (Edges s) p l h t = edge-correct s p l from tag kind i to h t
 step-correct (edge from tag kind i to) Pairs p l h t = out-of-place p (λ a. let w = t .at-stage .some-pair in a .2 (w .0) (w .1) (w .2))
-step-correct (edge from tag kind i to) Ended p l h t = out-of-place p (λ a. after-end (t .at-stage .last .1) (a .3))
+step-correct (edge from tag kind i to) Sized p l h t = out-of-place p (λ a. after-size (t .at-stage) (a .3))
+step-correct (edge from tag kind i to) Ended p l h t = out-of-place p (λ a. after-end (t .at-stage .last .1) (a .4))
 step-correct (pair a b) Start p l h t = out-of-place p (λ a. omega (arith, a .0, ap headers (t .at-stage)))
 step-correct (pair a b) (States s q) p l h t = out-of-place p (λ a. omega (arith, a .1))
 step-correct (pair a b) (Edges Left) p l h t = out-of-place p (λ a. omega (arith, a .0))
 step-correct (pair a b) (Edges Right) p l h t =
-    pair-correct p l a b (unpaired-finished h) (t .at-stage .side, t .at-stage .complete, t .at-stage .no-end) (t .says)
-step-correct (pair a b) Pairs p l h t = pair-correct p l a b h (t .at-stage .side, t .at-stage .complete, t .at-stage .no-end) (t .says)
-step-correct (pair a b) Ended p l h t = out-of-place p (λ a. after-end (t .at-stage .last .1) (a .2))
+    let at = t .at-stage in
+    pair-correct p l a b (unpaired-finished h) (at .side, at .complete, at .only .no-history, at .only .no-end) (t .says)
+step-correct (pair a b) Pairs p l h t =
+    let at = t .at-stage in
+    pair-correct p l a b (h .finished) (at .side, at .complete, at .no-history, at .no-end) (t .says)
+step-correct (pair a b) Sized p l h t = out-of-place p (λ a. after-size (t .at-stage) (a .2))
+step-correct (pair a b) Ended p l h t = out-of-place p (λ a. after-end (t .at-stage .last .1) (a .3))
+step-correct (history n) Start p l h t = out-of-place p (λ a. omega (arith, a .0, ap headers (t .at-stage)))
+step-correct (history n) (States s q) p l h t = out-of-place p (λ a. omega (arith, a .1))
+step-correct (history n) (Edges Left) p l h t = out-of-place p (λ a. omega (arith, a .0))
+step-correct (history n) (Edges Right) p l h t =
+    let at = t .at-stage in
+    history-correct p l n (unpaired-finished h) (at .side, at .complete, at .only .no-history, at .only .no-end) (t .says)
+step-correct (history n) Pairs p l h t =
+    let at = t .at-stage in
+    history-correct p l n (h .finished) (at .side, at .complete, at .no-history, at .no-end) (t .says)
+step-correct (history n) Sized p l h t = out-of-place p (λ a. after-size (t .at-stage) (a .2))
+step-correct (history n) Ended p l h t = out-of-place p (λ a. after-end (t .at-stage .last .1) (a .3))
 step-correct end Start p l h t = out-of-place p (λ a. omega (arith, a .0, ap headers (t .at-stage)))
 step-correct end (States s q) p l h t = out-of-place p (λ a. omega (arith, a .1))
 step-correct end (Edges Left) p l h t = out-of-place p (λ a. omega (arith, a .0))
-step-correct end (Edges Right) p l h t = end-correct p l (t .at-stage .side, t .at-stage .complete, t .at-stage .no-end) (t .says)
+step-correct end (Edges Right) p l h t =
+    end-correct p l (t .at-stage .side, t .at-stage .complete, t .at-stage .only .no-end) (t .says)
 step-correct end Pairs p l h t = end-correct p l (t .at-stage .side, t .at-stage .complete, t .at-stage .no-end) (t .says)
+step-correct end Sized p l h t = end-correct p l (t .at-stage .side, t .at-stage .complete, t .at-stage .no-end) (t .says)
 step-correct end Ended p l h t = out-of-place p (λ a. after-end (t .at-stage .last .1) (a .2))

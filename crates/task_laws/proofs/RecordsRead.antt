@@ -1,8 +1,8 @@
 -- The records of what is read at a stage; those of a model and of a matching when a state, an edge or a pair is added at their
--- end. Assumes nothing.
+-- end; the history's size. Assumes nothing.
 use Prim.Native.Nat.{ℕ, zero, suc, _+_, _-_, _≤_, _<_}
 use mathlib.Core.Path.{_≡_, refl, sym, _∙_, ap}
-use mathlib.Core.Bool.{true}
+use mathlib.Core.Bool.{true, false}
 use mathlib.Core.List.{List, [], _∷_, _++_, map, append-nil, append-assoc}
 use native.Mathlib.Omega.{arith}
 use native.Mathlib.Decide.{decLt}
@@ -20,9 +20,9 @@ use Rattle.fra.specs.declared.Side.{Side}
 use Rattle.fra.specs.declared.Side.the-variants.{Left, Right}
 use Rattle.task.specs.Records.{Record, header, state, pair, end}
 use Rattle.task.specs.TaskFile.{withModel, withState, withEdge, rising}
-use Rattle.task.specs.TaskBytes.{stateRecord, edgeRecord, modelRecords, pairRecords, taskRecords}
+use Rattle.task.specs.TaskBytes.{stateRecord, edgeRecord, modelRecords, pairRecords, historyRecords, taskRecords}
 use Rattle.task.specs.declared.Stage.{Stage}
-use Rattle.task.specs.declared.Stage.the-variants.{Start, States, Edges, Pairs, Ended}
+use Rattle.task.specs.declared.Stage.the-variants.{Start, States, Edges, Pairs, Sized, Ended}
 use Rattle.fra_laws.proofs.Tests.{not-both, fails-unless}
 use Rattle.fra_laws.proofs.ByPlace.{places-length, places-at, places-more, listed}
 use Rattle.task_laws.proofs.Arrays.{any-at, any-index}
@@ -129,22 +129,31 @@ abbrev pub recordsBefore : Side → Task → List Record
 recordsBefore Left t = []
 recordsBefore Right t = modelRecords edgeRecord (t .left)
 
--- the records of a task without its end
-abbrev pub unendedRecords : Task → List Record
-unendedRecords t =
+-- the records of a task up to its pairs, and those without its end
+abbrev pub pairedRecords : Task → List Record
+pairedRecords t =
     modelRecords edgeRecord (t .left) ++ modelRecords edgeRecord (t .right) ++ pairRecords 1 (t .start .partners)
+
+abbrev pub unendedRecords : Task → List Record
+unendedRecords t = pairedRecords t ++ historyRecords t
 
 -- the records of what is read at a stage
 abbrev pub recordsAt : Stage → Task → List Record
 recordsAt Start t = []
 recordsAt (States s q) t = recordsBefore s t ++ begunRecords q (modelOf t s)
 recordsAt (Edges s) t = recordsBefore s t ++ modelRecords edgeRecord (modelOf t s)
-recordsAt Pairs t = unendedRecords t
-recordsAt Ended t = taskRecords edgeRecord [] t
+recordsAt Pairs t = pairedRecords t
+recordsAt Sized t = unendedRecords t
+recordsAt Ended t = taskRecords edgeRecord (historyRecords t) t
 
-pub ended-records : (t : Task) → taskRecords edgeRecord [] t ≡ unendedRecords t ++ end ∷ []
+pub ended-records : (t : Task) → taskRecords edgeRecord (historyRecords t) t ≡ unendedRecords t ++ end ∷ []
 unfolding taskRecords
-ended-records t = rw append-nil
+ended-records t = refl
+
+-- where no history size is stated, no record says it
+pub unstated-records : (t : Task) → t .«history_stated» ≡ false → unendedRecords t ≡ pairedRecords t
+unfolding historyRecords
+unstated-records t e = rw (e, append-nil)
 
 -- the model that is being read is exchanged for one with a record more
 pub records-more : (s : Side) (t : Task) (m : Model) (f : Model → List Record) (l : List Record) (x : Record) → f m ≡ l ++ x ∷ []

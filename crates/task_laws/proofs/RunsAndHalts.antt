@@ -10,11 +10,11 @@ use native.Mathlib.Omega.{arith}
 use lib.ListN.{length}
 use lib.Dec.{eqb}
 use borrow.Author.Tests.{eqb-true, lt-ltb, le-ltb}
-use Rattle.task.specs.Records.{Record, header, state, edge, pair, end, encode, Body, of-header, of-state, of-edge, of-pair, of-end}
+use Rattle.task.specs.Records.{Record, header, state, edge, pair, history, end, encode, Body, of-header, of-state, of-edge, of-pair, of-history, of-end}
 use Rattle.task.specs.TaskFile
-use Rattle.task.specs.TaskFile.{RecordKind, isHeader, isState, isEdge, isPair, isEnd, recordKind, bodyLength, step, next, refuse, refused, atStart, atEnd, readRest, readTask}
+use Rattle.task.specs.TaskFile.{RecordKind, isHeader, isState, isEdge, isPair, isHistory, isEnd, recordKind, bodyLength, step, next, refuse, refused, atStart, atEnd, readRest, readTask}
 use Rattle.task.specs.declared.Stage.{Stage}
-use Rattle.task.specs.declared.Stage.the-variants.{Start, States, Edges, Pairs, Ended}
+use Rattle.task.specs.declared.Stage.the-variants.{Start, States, Edges, Pairs, Sized, Ended}
 use Rattle.task.specs.declared.Progress.{Progress}
 use Rattle.task.specs.declared.Stepped.{Stepped}
 use Rattle.task.specs.declared.Answer.the-variants.{Read}
@@ -29,6 +29,7 @@ stepAt (header r s q) stage p = TaskFile.header stage p (r ∷ s ∷ q ∷ [])
 stepAt (state n set mark) stage p = TaskFile.state stage p (n ∷ set ∷ mark ∷ [])
 stepAt (edge from tag kind i to) stage p = TaskFile.edge stage p (from ∷ tag ∷ kind ∷ i ∷ to ∷ [])
 stepAt (pair a b) stage p = TaskFile.pair stage p (a ∷ b ∷ [])
+stepAt (history n) stage p = TaskFile.history stage p (n ∷ [])
 stepAt end stage p = TaskFile.end stage p
 
 abbrev pub stepOf : Record → Progress → Stepped
@@ -56,6 +57,7 @@ byteOf isHeader = 1
 byteOf isState = 2
 byteOf isEdge = 3
 byteOf isPair = 4
+byteOf isHistory = 5
 byteOf isEnd = 15
 
 byte-known : (k : RecordKind) → recordKind (byteOf k) ≡ some k
@@ -64,6 +66,7 @@ byte-known isHeader = refl
 byte-known isState = refl
 byte-known isEdge = refl
 byte-known isPair = refl
+byte-known isHistory = refl
 byte-known isEnd = refl
 
 none-not-some : {o : Option RecordKind} {k : RecordKind} → o ≡ none → o ≡ some k → ⊥
@@ -71,7 +74,8 @@ none-not-some p q = clash (cc)
 
 known-byte : (b : ℕ) (k : RecordKind) → recordKind b ≡ some k → b ≡ byteOf k
 unfolding recordKind
-known-byte b k = one isHeader (one isState (one isEdge (one isPair (one isEnd (λ e. absurd (none-not-some refl e))))))
+known-byte b k =
+    one isHeader (one isState (one isEdge (one isPair (one isHistory (one isEnd (λ e. absurd (none-not-some refl e)))))))
   where
     one : (j : RecordKind) {o : Option RecordKind} → (o ≡ some k → b ≡ byteOf k)
         → cond (eqb b (byteOf j)) (some j) o ≡ some k → b ≡ byteOf k
@@ -81,7 +85,7 @@ known-byte b k = one isHeader (one isState (one isEdge (one isPair (one isEnd (�
         at true e h = let same : j ≡ k = cc in eqb-true b (byteOf j) e ∙ ap byteOf same
         at false e h = rest h
 
--- a kind has its byte and its length, as 01 lists them
+-- a kind has its byte and its length, as the papers list them
 pub kind-body : (b : ℕ) (k : RecordKind) → recordKind b ≡ some k → Body b (bodyLength k)
 unfolding bodyLength
 kind-body b k e = rw (known-byte b k e) (at k)
@@ -91,6 +95,7 @@ kind-body b k e = rw (known-byte b k e) (at k)
     at isState = of-state
     at isEdge = of-edge
     at isPair = of-pair
+    at isHistory = of-history
     at isEnd = of-end
 
 pub body-kind : {b n : ℕ} → Body b n → (k : RecordKind) × (recordKind b ≡ some k) × (bodyLength k ≡ n)
@@ -99,6 +104,7 @@ body-kind of-header = (isHeader, byte-known isHeader, refl)
 body-kind of-state = (isState, byte-known isState, refl)
 body-kind of-edge = (isEdge, byte-known isEdge, refl)
 body-kind of-pair = (isPair, byte-known isPair, refl)
+body-kind of-history = (isHistory, byte-known isHistory, refl)
 body-kind of-end = (isEnd, byte-known isEnd, refl)
 
 -- a byte is of no kind exactly if it begins no record
@@ -122,6 +128,7 @@ whole-body isHeader (r ∷ s ∷ q ∷ rest) h = whole (header r s q) rest
 whole-body isState (n ∷ set ∷ mark ∷ rest) h = whole (state n set mark) rest
 whole-body isEdge (from ∷ tag ∷ kind ∷ i ∷ to ∷ rest) h = whole (edge from tag kind i to) rest
 whole-body isPair (a ∷ b ∷ rest) h = whole (pair a b) rest
+whole-body isHistory (n ∷ rest) h = whole (history n) rest
 whole-body isEnd rest h = whole end rest
 whole-body isHeader [] h = absurd (omega arith)
 whole-body isHeader (a ∷ []) h = absurd (omega arith)
@@ -136,6 +143,7 @@ whole-body isEdge (a ∷ b ∷ c ∷ []) h = absurd (omega arith)
 whole-body isEdge (a ∷ b ∷ c ∷ d ∷ []) h = absurd (omega arith)
 whole-body isPair [] h = absurd (omega arith)
 whole-body isPair (a ∷ []) h = absurd (omega arith)
+whole-body isHistory [] h = absurd (omega arith)
 
 next-in : (l : List ℕ) → Next l
 next-in [] = nothing
@@ -178,6 +186,7 @@ read-record n p (state m set mark) rest = rw (le-ltb (length (m ∷ set ∷ mark
 read-record n p (edge from tag kind i to) rest =
     rw (le-ltb (length (from ∷ tag ∷ kind ∷ i ∷ to ∷ rest)) 5 (omega arith), readRest)
 read-record n p (pair a b) rest = rw (le-ltb (length (a ∷ b ∷ rest)) 2 (omega arith), readRest)
+read-record n p (history m) rest = rw (le-ltb (length (m ∷ rest)) 1 (omega arith), readRest)
 read-record n p end rest = rw (le-ltb (length rest) 0 (omega arith), readRest)
 
 -- the end record was read, or the file's end is refused
@@ -187,6 +196,7 @@ at-end p Start = inr (λ e. clash (cc), refl)
 at-end p (States s q) = inr (λ e. clash (cc), refl)
 at-end p (Edges s) = inr (λ e. clash (cc), refl)
 at-end p Pairs = inr (λ e. clash (cc), refl)
+at-end p Sized = inr (λ e. clash (cc), refl)
 at-end p Ended = inl refl
 
 -- a halt is what the reader gives there
@@ -208,6 +218,7 @@ record-shortens (header r s q) rest = omega arith
 record-shortens (state n set mark) rest = omega arith
 record-shortens (edge from tag kind i to) rest = omega arith
 record-shortens (pair a b) rest = omega arith
+record-shortens (history n) rest = omega arith
 record-shortens end rest = omega arith
 
 run-read : {file rest : List ℕ} {p : Progress} → Run file p rest → (n : ℕ) × (length rest < n) × (readTask file ≡ readRest n p rest)

@@ -17,10 +17,10 @@ use Rattle.fra.specs.declared.Model.{Model}
 use Rattle.fra.specs.declared.Task.{Task}
 use Rattle.fra.specs.declared.Side.{Side}
 use Rattle.fra.specs.declared.Side.the-variants.{Left, Right}
-use Rattle.task.specs.Records.{Record, header, state, edge, pair, end, headers, earlier, registers, states, start, statesRead, edgesRead, lastEdge, setIn, Complete, NoPair, NoEnd}
+use Rattle.task.specs.Records.{Record, header, state, edge, pair, history, end, headers, earlier, registers, states, start, statesRead, edgesRead, lastEdge, setIn, Complete, NoPair, NoHistory, NoEnd}
 use Rattle.task.specs.TaskFile.{maxStates, headed, withState, edgeOfBody, rises, withEdge}
 use Rattle.task.specs.declared.Stage.{Stage}
-use Rattle.task.specs.declared.Stage.the-variants.{Start, States, Edges, Pairs, Ended}
+use Rattle.task.specs.declared.Stage.the-variants.{Start, States, Edges, Pairs, Sized, Ended}
 use Rattle.task.specs.declared.Progress.{Progress}
 use Rattle.task_laws.proofs.Arrays.{getD-replicate-default, getD-set}
 use Rattle.task_laws.proofs.Models.{setOf-withState, edgeOf-withEdge, edgeBytes-read, rises-first, rises-after}
@@ -100,6 +100,7 @@ shape (header r n q) = 1
 shape (state n set mark) = 2
 shape (edge from tag kind i to) = 3
 shape (pair a b) = 4
+shape (history n) = 5
 shape end = 15
 
 pub paired-none : (l : List Record) (n : ℕ) → NoPair l → Paired l (replicate n 0)
@@ -158,26 +159,38 @@ abbrev pub headersOf : Side → ℕ
 headersOf Left = 1
 headersOf Right = 2
 
+-- no record that follows the models is read
+pub record ModelsOnly (l : List Record) : Type 0 where
+  pub no-pair : NoPair l
+  pub no-history : NoHistory l
+  pub no-end : NoEnd l
+
 -- state q of a side is due
 pub record InStates (s : Side) (q : ℕ) (l : List Record) : Type 0 where
   pub side : headers l ≡ headersOf s
   pub read : statesRead l ≡ q
   pub due : q < states l
-  pub no-pair : NoPair l
-  pub no-end : NoEnd l
+  pub only : ModelsOnly l
 
 -- the states of a side are read
 pub record InEdges (s : Side) (l : List Record) : Type 0 where
   pub side : headers l ≡ headersOf s
   pub complete : Complete l
-  pub no-pair : NoPair l
-  pub no-end : NoEnd l
+  pub only : ModelsOnly l
 
 -- a pair is read
 pub record InPairs (l : List Record) : Type 0 where
   pub side : headers l ≡ 2
   pub complete : Complete l
   pub some-pair : (a : ℕ) × (b : ℕ) × (pair a b ∈ l)
+  pub no-history : NoHistory l
+  pub no-end : NoEnd l
+
+-- the history's size is read
+pub record AfterSize (l : List Record) : Type 0 where
+  pub side : headers l ≡ 2
+  pub complete : Complete l
+  pub some-history : (n : ℕ) × (history n ∈ l)
   pub no-end : NoEnd l
 
 -- the end is read
@@ -192,6 +205,7 @@ AtStage Start l = l ≡ []
 AtStage (States s q) l = InStates s q l
 AtStage (Edges s) l = InEdges s l
 AtStage Pairs l = InPairs l
+AtStage Sized l = AfterSize l
 AtStage Ended l = AtEnd l
 
 -- while the right model is read: the left one, and the pairs
@@ -214,6 +228,7 @@ SaysAt Start l t = Unit {0}
 SaysAt (States s q) l t = Says s l t
 SaysAt (Edges s) l t = Says s l t
 SaysAt Pairs l t = Says Right l t
+SaysAt Sized l t = Says Right l t
 SaysAt Ended l t = Says Right l t
 
 pub record TiedAt (stage : Stage) (l : List Record) (t : Task) : Type 0 where
@@ -223,9 +238,14 @@ pub record TiedAt (stage : Stage) (l : List Record) (t : Task) : Type 0 where
 abbrev pub Tied : List Record → Progress → Type 0
 Tied l p = TiedAt (p .stage) l (p .task)
 
-pub no-pair-more : {l : List Record} {x : Record} → (shape x ≡ 4 → ⊥) → NoPair l → NoPair (x ∷ l)
-no-pair-more {l} {x} other h a b m =
-    ⊎-elim (λ (e : pair a b ≡ x). other (sym (ap shape e))) (h a b) (List·Memᴰ·cases-cons m)
+-- a record of one shape is not added by one of another
+pub not-more : {l : List Record} {x y : Record} → (shape y ≡ shape x → ⊥) → (y ∈ l → ⊥) → y ∈ x ∷ l → ⊥
+not-more {l} {x} {y} other h m = ⊎-elim (λ (e : y ≡ x). other (ap shape e)) h (List·Memᴰ·cases-cons m)
 
-pub no-end-more : {l : List Record} {x : Record} → (shape x ≡ 15 → ⊥) → NoEnd l → NoEnd (x ∷ l)
-no-end-more {l} {x} other h m = ⊎-elim (λ (e : end ≡ x). other (sym (ap shape e))) h (List·Memᴰ·cases-cons m)
+pub only-more : {l : List Record} {x : Record} → shape x < 4 → ModelsOnly l → ModelsOnly (x ∷ l)
+only-more early h =
+    record {
+      no-pair = λ a b. not-more (λ e. omega arith) (h .no-pair a b);
+      no-history = λ n. not-more (λ e. omega arith) (h .no-history n);
+      no-end = not-more (λ e. omega arith) (h .no-end);
+    }

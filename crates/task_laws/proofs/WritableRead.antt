@@ -2,7 +2,7 @@
 use Prim.Native.Nat.{ℕ, zero, suc, _-_, _^_, _≤_, _<_}
 use mathlib.Core.Path.{_≡_, refl, sym, _∙_, ap, ap₂, subst}
 use mathlib.Core.Logic.{_⊎_, inl, inr}
-use mathlib.Core.Bool.{true, cond}
+use mathlib.Core.Bool.{Bool, true, false, cond}
 use mathlib.Core.List.{List, [], _++_}
 use native.Mathlib.Decide.{decLt}
 use native.Mathlib.Numerals.{add-one}
@@ -14,7 +14,7 @@ use borrow.Author.Tests.{eqb-true, eq-eqb, ne-eqb}
 use Rattle.fra.specs.Lists.{any}
 use Rattle.fra.specs.Model.{noState, noEdge, setOf, markOf, edgeOf, edgeBytes, kindNumber, registerOf}
 use Rattle.fra.specs.Rules.{modelOf}
-use Rattle.fra.specs.Position.{rightPartner}
+use Rattle.fra.specs.Position.{rightPartner, mostSeen}
 use Rattle.fra.specs.Valid.{ValidEdge}
 use Rattle.fra.specs.declared.EdgeKind.{EdgeKind}
 use Rattle.fra.specs.declared.EdgeKind.the-variants.{Known, LocallyFresh, GloballyFresh}
@@ -23,12 +23,12 @@ use Rattle.fra.specs.declared.Model.{Model}
 use Rattle.fra.specs.declared.Task.{Task}
 use Rattle.fra.specs.declared.Side.{Side}
 use Rattle.fra.specs.declared.Side.the-variants.{Left, Right}
-use Rattle.task.specs.Records.{Record, header, state, edge, pair, end, encode}
+use Rattle.task.specs.Records.{Record, header, state, edge, pair, history, end, encode}
 use Rattle.task.specs.TaskFile
-use Rattle.task.specs.TaskFile.{maxRegisters, maxStates, maxEdges, next, withModel, headed, withHeader, withState, edgeOfBody, rises, withEdge, withPair, afterState, headerAt, stateAt, edgeAt, pairAt, endAt, headerRefusal, stateRefusal, edgeRefusal, pairRefusal, atStart, noTask, readTask}
+use Rattle.task.specs.TaskFile.{maxRegisters, maxStates, maxEdges, next, withModel, headed, withHeader, withState, edgeOfBody, rises, withEdge, withPair, withHistory, afterState, headerAt, stateAt, edgeAt, pairAt, historyAt, endAt, headerRefusal, stateRefusal, edgeRefusal, pairRefusal, historyRefusal, atStart, noTask, readTask}
 use Rattle.task.specs.TaskBytes.{Writable}
 use Rattle.task.specs.declared.Stage.{Stage}
-use Rattle.task.specs.declared.Stage.the-variants.{Start, States, Edges, Pairs, Ended}
+use Rattle.task.specs.declared.Stage.the-variants.{Start, States, Edges, Pairs, Sized, Ended}
 use Rattle.task.specs.declared.Progress.{Progress}
 use Rattle.task.specs.declared.Stepped.{Stepped}
 use Rattle.task.specs.declared.Answer.the-variants.{Read}
@@ -38,7 +38,7 @@ use Rattle.fra_laws.proofs.Legal.{Legal, legal-facts}
 use Rattle.task_laws.proofs.RegisterBits.{has-above}
 use Rattle.task_laws.proofs.Arrays.{any-index, upTo, upTo-before, upTo-past, upTo-none, upTo-all, upTo-set}
 use Rattle.task_laws.proofs.RunsAndHalts.{stepAt, decided, Run, begin, onward, ended, halt-decides}
-use Rattle.task_laws.proofs.Checks.{HeaderFits, header-passes, StateFits, state-passes, EdgeFits, edge-passes, PairFits, pair-passes}
+use Rattle.task_laws.proofs.Checks.{HeaderFits, header-passes, StateFits, state-passes, EdgeFits, edge-passes, PairFits, pair-passes, HistoryFits, history-passes}
 use Rattle.task_laws.proofs.Models.{rises-first, rises-after, Whole}
 use Rattle.task_laws.proofs.RecordsRead.{zeros-rising}
 use Rattle.task_laws.proofs.Judging.{register-faulty, register-kept}
@@ -259,34 +259,53 @@ module _ (s : Side) (t : Task) {m : Model} (whole : Whole m) where
           rw (eq-eqb (m .«state_count») (m .«state_count») refl, states-added whole) at
           (in-a-row StatesLaid (m .«state_count») header-laid one-state)
 
--- ── Pairs and the end ──
+-- ── Pairs, the history's size and the end ──
 
--- the task is laid out up to its pairs or its end
+-- the task is laid out up to its pairs, with or without one
+abbrev PairsLaid : Task → Type 0
+PairsLaid t = Reachable (Edges Right) t ⊎ Reachable Pairs t
+
+-- or up to its end, with or without the history's size
 abbrev Unended : Task → Type 0
-Unended t = Reachable (Edges Right) t ⊎ Reachable Pairs t
+Unended t = PairsLaid t ⊎ Reachable Sized t
 
-pair-reached : (t : Task) (a b : ℕ) → PairFits t a b → Unended t → Unended (withPair t a b)
+pair-reached : (t : Task) (a b : ℕ) → PairFits t a b → PairsLaid t → PairsLaid (withPair t a b)
 unfolding TaskFile.pair pairAt
 pair-reached t a b f (inl h) = inr (reach (pair a b) (pairRefusal t a b) (Edges Right) t _ refl (pair-passes f) h)
 pair-reached t a b f (inr h) = inr (reach (pair a b) (pairRefusal t a b) Pairs t _ refl (pair-passes f) h)
 
+history-reached : (t : Task) (n : ℕ) → HistoryFits t n → PairsLaid t → Reachable Sized (withHistory t n)
+unfolding TaskFile.history historyAt
+history-reached t n f (inl h) = reach (history n) (historyRefusal t n) (Edges Right) t _ refl (history-passes f) h
+history-reached t n f (inr h) = reach (history n) (historyRefusal t n) Pairs t _ refl (history-passes f) h
+
 end-reached : (t : Task) → Unended t → Reachable Ended t
 unfolding TaskFile.end endAt
-end-reached t (inl h) = reach end 0 (Edges Right) t _ refl refl h
-end-reached t (inr h) = reach end 0 Pairs t _ refl refl h
+end-reached t (inl (inl h)) = reach end 0 (Edges Right) t _ refl refl h
+end-reached t (inl (inr h)) = reach end 0 Pairs t _ refl refl h
+end-reached t (inr h) = reach end 0 Sized t _ refl refl h
 
--- a task's models, with these states and partners to start from
-abbrev started : Task → ℕ → ℕ → List ℕ → Task
-started t left right partners =
-    record { left = t .left; right = t .right; start = record { left = left; right = right; partners = partners } }
+-- a task's models, with these states, partners and history size to start from, stated or not
+abbrev started : Task → ℕ → ℕ → List ℕ → ℕ → Bool → Task
+started t left right partners size stated =
+    record {
+      left = t .left;
+      right = t .right;
+      start = record { left = left; right = right; partners = partners; history = size };
+      «history_stated» = stated;
+    }
+
+-- no size is stated
+abbrev unsized : Task → ℕ → ℕ → List ℕ → Task
+unsized t left right partners = started t left right partners (mostSeen maxRegisters) false
 
 module _ {t : Task} (writable : Writable t) where
   abbrev partners : List ℕ
   partners = t .start .partners
 
-  -- the task with the partners of its first k left registers only
+  -- the task with the partners of its first k left registers only, and no size
   abbrev pairsUpTo : ℕ → Task
-  pairsUpTo k = started t (t .left .start) (t .right .start) (upTo 0 k partners)
+  pairsUpTo k = unsized t (t .left .start) (t .right .start) (upTo 0 k partners)
 
   left-whole : Whole (t .left)
   left-whole = record { valid = writable .valid .left; writable = writable .left }
@@ -316,12 +335,12 @@ module _ {t : Task} (writable : Writable t) where
           omega (arith, legal-start .matches .injective (suc k) (suc j) p (e ∙ upTo-before 0 k partners j b))
       elsewhere j e (no b) = omega (arith, upTo-past 0 k partners j (omega arith))
 
-  one-pair : (k : ℕ) → k < maxRegisters → Unended (pairsUpTo k) → Unended (pairsUpTo (suc k))
+  one-pair : (k : ℕ) → k < maxRegisters → PairsLaid (pairsUpTo k) → PairsLaid (pairsUpTo (suc k))
   unfolding withPair
   one-pair k b h = rw (← upTo-set 0 k partners (omega (arith, legal-start .long))) (at (getD partners k 0) refl)
     where
       at : (x : ℕ) → getD partners k 0 ≡ x
-          → Unended (started t (t .left .start) (t .right .start) (set (upTo 0 k partners) k x))
+          → PairsLaid (unsized t (t .left .start) (t .right .start) (set (upTo 0 k partners) k x))
       at zero e =
           let none = rw (upTo-past 0 k partners k (omega arith)) at (set-getD (upTo 0 k partners) k 0) in
           rw none h
@@ -330,20 +349,37 @@ module _ {t : Task} (writable : Writable t) where
           rw (place, e) at (pair-reached (pairsUpTo k) (suc k) (getD partners k 0) (pair-fitting k (omega arith)) h)
 
   models-reached : Reachable (Edges Right) (pairsUpTo 0)
-  unfolding withHeader atStart
+  unfolding withHeader atStart noTask
   models-reached =
       rw (upTo-none 0 maxRegisters partners (legal-start .long))
       (model-reached Right (withHeader noTask Left (t .left)) right-whole
       (model-reached Left noTask left-whole (λ rest. (rest, begin))))
 
-  pairs-all : pairsUpTo maxRegisters ≡ t
+  pairs-all : pairsUpTo maxRegisters ≡ unsized t (t .start .left) (t .start .right) partners
   pairs-all =
-      ap (started t (t .left .start) (t .right .start))
+      ap (unsized t (t .left .start) (t .right .start))
       (upTo-all 0 maxRegisters partners (λ k b. List·getD-eq-default partners 0 (omega (arith, legal-start .long))))
-      ∙ ap₂ (λ (a b : ℕ). started t a b partners) (sym (writable .valid .start-left)) (sym (writable .valid .start-right))
+      ∙ ap₂ (λ (a b : ℕ). unsized t a b partners) (sym (writable .valid .start-left)) (sym (writable .valid .start-right))
+
+  -- the record of the size follows, if the task states it; if not, it is the greatest
+  size-reached : PairsLaid (unsized t (t .start .left) (t .start .right) partners) → Unended t
+  unfolding withHistory
+  size-reached h = at (t .«history_stated») refl
+    where
+      resized : ℕ → Bool → Task
+      resized = started t (t .start .left) (t .start .right) partners
+
+      at : (b : Bool) → t .«history_stated» ≡ b → Unended t
+      at true e =
+          inr
+          (subst (λ (u : Task). Reachable Sized u) (ap (resized (t .start .history)) (sym e))
+          (history-reached (resized (mostSeen maxRegisters) false) (t .start .history)
+          (record { least = legal-start .least; most = legal-start .most }) h))
+      at false e =
+          inl (subst (λ (u : Task). PairsLaid u) (ap₂ resized (sym (writable .valid .unstated e)) (sym e)) h)
 
   pub writable-read : (file : List ℕ) × (readTask file ≡ record { answer = Read; task = t })
   writable-read =
-      let paired = in-a-row (λ k. Unended (pairsUpTo k)) maxRegisters (inl models-reached) one-pair in
-      let w = rw pairs-all at (end-reached (pairsUpTo maxRegisters) paired) [] in
+      let paired = in-a-row (λ k. PairsLaid (pairsUpTo k)) maxRegisters (inl models-reached) one-pair in
+      let w = end-reached t (size-reached (rw pairs-all at paired)) [] in
       (w .0, halt-decides (w .1) (ended refl))

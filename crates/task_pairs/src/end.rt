@@ -12,7 +12,7 @@ fn step_of(p: Progress) -> Stepped
     task_progress::next(Stage::Ended, p.task)
 }
 
-// It stands after the right model and the pairs.
+// It stands after the right model, the pairs and the history's size.
 pub fn step(p: Progress) -> Stepped
     ensures { λ r. ⌜ r ≡ end (p .stage) p ⌝ }
 {
@@ -23,6 +23,7 @@ pub fn step(p: Progress) -> Stepped
             Side::Right => step_of(p),
         },
         Stage::Pairs => step_of(p),
+        Stage::Sized => step_of(p),
         _ => task_progress::refuse(3, p),
     }
 }

@@ -1,6 +1,6 @@
 // "4, pair: left register, right register."
+use crate::places::among_pairs;
 use fra::Model;
-use fra::Side;
 use fra::Task;
 use fra::has;
 use task::Progress;
@@ -78,17 +78,13 @@ fn step_of(p: Progress, body: &[u8]) -> Stepped
     task_progress::next(Stage::Pairs, with_pair(t, left, right))
 }
 
-// It stands after the right model.
+// It stands after the right model, and before the history's size.
 pub fn step(p: Progress, body: &[u8]) -> Stepped
     ensures { λ r. ⌜ r ≡ pair (p .stage) p (now (body .entry)) ⌝ }
 {
     let stage = p.stage;
-    match stage {
-        Stage::Edges(side) => match side {
-            Side::Left => task_progress::refuse(3, p),
-            Side::Right => step_of(p, body),
-        },
-        Stage::Pairs => step_of(p, body),
-        _ => task_progress::refuse(3, p),
+    if !among_pairs(stage) {
+        return task_progress::refuse(3, p);
     }
+    step_of(p, body)
 }

@@ -11,9 +11,9 @@ use borrow.Author.Tests.{eqb-false}
 use Rattle.fra.specs.Lists.{any}
 use Rattle.fra_laws.proofs.Tests.{or-false-left, or-false-right}
 use Rattle.task.proofs.Stage as stages
-use Rattle.task.specs.TaskFile.{refuse, header, state, edge, pair, end}
+use Rattle.task.specs.TaskFile.{refuse, header, state, edge, end}
 use Rattle.task.specs.declared.Stage.{Stage}
-use Rattle.task.specs.declared.Stage.the-variants.{Start, States, Edges, Pairs, Ended}
+use Rattle.task.specs.declared.Stage.the-variants.{Start, States, Edges, Pairs, Sized, Ended}
 use Rattle.task.specs.declared.Progress.{Progress}
 
 -- the stage has one of these tags
@@ -29,43 +29,39 @@ absent (k ∷ l ∷ keys) x e (inl h) = eqb-false x k (or-false-left (eqb x k) (
 absent (k ∷ l ∷ keys) x e (inr h) = absent (l ∷ keys) x (or-false-right (eqb x k) (any (eqb x) (l ∷ keys)) e) h
 
 module _ (p : Progress) where
-  pub end-elsewhere : (s : Stage) → Tagged (0 ∷ 1 ∷ 4 ∷ []) s → end s p ≡ refuse 3 p
+  pub end-elsewhere : (s : Stage) → Tagged (0 ∷ 1 ∷ 5 ∷ []) s → end s p ≡ refuse 3 p
   unfolding end any
   end-elsewhere Start h = refl
   end-elsewhere (States s q) h = refl
-  end-elsewhere (Edges s) h = absurd (absent (0 ∷ 1 ∷ 4 ∷ []) 2 refl h)
-  end-elsewhere Pairs h = absurd (absent (0 ∷ 1 ∷ 4 ∷ []) 3 refl h)
+  end-elsewhere (Edges s) h = absurd (absent (0 ∷ 1 ∷ 5 ∷ []) 2 refl h)
+  end-elsewhere Pairs h = absurd (absent (0 ∷ 1 ∷ 5 ∷ []) 3 refl h)
+  end-elsewhere Sized h = absurd (absent (0 ∷ 1 ∷ 5 ∷ []) 4 refl h)
   end-elsewhere Ended h = refl
 
   module _ (body : List ℕ) where
-    pub header-elsewhere : (s : Stage) → Tagged (1 ∷ 3 ∷ 4 ∷ []) s → header s p body ≡ refuse 3 p
+    pub header-elsewhere : (s : Stage) → Tagged (1 ∷ 3 ∷ 4 ∷ 5 ∷ []) s → header s p body ≡ refuse 3 p
     unfolding header any
-    header-elsewhere Start h = absurd (absent (1 ∷ 3 ∷ 4 ∷ []) 0 refl h)
+    header-elsewhere Start h = absurd (absent (1 ∷ 3 ∷ 4 ∷ 5 ∷ []) 0 refl h)
     header-elsewhere (States s q) h = refl
-    header-elsewhere (Edges s) h = absurd (absent (1 ∷ 3 ∷ 4 ∷ []) 2 refl h)
+    header-elsewhere (Edges s) h = absurd (absent (1 ∷ 3 ∷ 4 ∷ 5 ∷ []) 2 refl h)
     header-elsewhere Pairs h = refl
+    header-elsewhere Sized h = refl
     header-elsewhere Ended h = refl
 
-    pub state-elsewhere : (s : Stage) → Tagged (0 ∷ 2 ∷ 3 ∷ 4 ∷ []) s → state s p body ≡ refuse 3 p
+    pub state-elsewhere : (s : Stage) → Tagged (0 ∷ 2 ∷ 3 ∷ 4 ∷ 5 ∷ []) s → state s p body ≡ refuse 3 p
     unfolding state any
     state-elsewhere Start h = refl
-    state-elsewhere (States s q) h = absurd (absent (0 ∷ 2 ∷ 3 ∷ 4 ∷ []) 1 refl h)
+    state-elsewhere (States s q) h = absurd (absent (0 ∷ 2 ∷ 3 ∷ 4 ∷ 5 ∷ []) 1 refl h)
     state-elsewhere (Edges s) h = refl
     state-elsewhere Pairs h = refl
+    state-elsewhere Sized h = refl
     state-elsewhere Ended h = refl
 
-    pub edge-elsewhere : (s : Stage) → Tagged (0 ∷ 1 ∷ 3 ∷ 4 ∷ []) s → edge s p body ≡ refuse 3 p
+    pub edge-elsewhere : (s : Stage) → Tagged (0 ∷ 1 ∷ 3 ∷ 4 ∷ 5 ∷ []) s → edge s p body ≡ refuse 3 p
     unfolding edge any
     edge-elsewhere Start h = refl
     edge-elsewhere (States s q) h = refl
-    edge-elsewhere (Edges s) h = absurd (absent (0 ∷ 1 ∷ 3 ∷ 4 ∷ []) 2 refl h)
+    edge-elsewhere (Edges s) h = absurd (absent (0 ∷ 1 ∷ 3 ∷ 4 ∷ 5 ∷ []) 2 refl h)
     edge-elsewhere Pairs h = refl
+    edge-elsewhere Sized h = refl
     edge-elsewhere Ended h = refl
-
-    pub pair-elsewhere : (s : Stage) → Tagged (0 ∷ 1 ∷ 4 ∷ []) s → pair s p body ≡ refuse 3 p
-    unfolding pair any
-    pair-elsewhere Start h = refl
-    pair-elsewhere (States s q) h = refl
-    pair-elsewhere (Edges s) h = absurd (absent (0 ∷ 1 ∷ 4 ∷ []) 2 refl h)
-    pair-elsewhere Pairs h = absurd (absent (0 ∷ 1 ∷ 4 ∷ []) 3 refl h)
-    pair-elsewhere Ended h = refl

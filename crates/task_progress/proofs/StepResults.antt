@@ -9,9 +9,9 @@ use Rattle.fra.specs.declared.Edge.{Edge}
 use Rattle.fra.specs.declared.Model.{Model}
 use Rattle.fra.specs.declared.Side.{Side}
 use Rattle.fra.specs.declared.Task.{Task}
-use Rattle.task.specs.TaskFile.{next, refuse, withModel, headerRefusal, headed, withHeader, headerAt, stateRefusal, withState, afterState, stateAt, edgeRefusal, edgeOfBody, withEdge, edgeAt, pairRefusal, withPair, pairAt}
+use Rattle.task.specs.TaskFile.{next, refuse, withModel, headerRefusal, headed, withHeader, headerAt, stateRefusal, withState, afterState, stateAt, edgeRefusal, edgeOfBody, withEdge, edgeAt, pairRefusal, withPair, pairAt, historyRefusal, withHistory, historyAt}
 use Rattle.task.specs.declared.Stage.{Stage}
-use Rattle.task.specs.declared.Stage.the-variants.{States, Edges, Pairs}
+use Rattle.task.specs.declared.Stage.the-variants.{States, Edges, Pairs, Sized}
 use Rattle.task.specs.declared.Progress.{Progress}
 
 module _ (s : Side) (p : Progress) (body : List ℕ) where
@@ -86,3 +86,19 @@ module _ (p : Progress) (body : List ℕ) {a b : ℕ} (ea : a ≡ getD body 0 0)
   pair-taken e z et =
       let none : pairRefusal (p .task) (getD body 0 0) (getD body 1 0) ≡ 0 = rw (← ea, ← eb) (sym e ∙ z) in
       rw (none, et, ea, eb, pairAt)
+
+module _ (p : Progress) (body : List ℕ) {a : ℕ} (ea : a ≡ getD body 0 0) where
+  pub history-refused : (n : ℕ) → n ≡ historyRefusal (p .task) a → (n ≡ 0 → ⊥) → refuse n p ≡ historyAt p body
+  unfolding historyAt
+  history-refused zero e h = absurd (h refl)
+  history-refused (suc n) e h = rw (← ea, ← e, historyAt)
+
+  pub history-taken : {n : ℕ} {t : Task}
+      → n ≡ historyRefusal (p .task) a
+      → n ≡ 0
+      → t ≡ withHistory (p .task) a
+      → next (record { stage = Sized; task = t }) ≡ historyAt p body
+  unfolding historyAt
+  history-taken e z et =
+      let none : historyRefusal (p .task) (getD body 0 0) ≡ 0 = rw (← ea) (sym e ∙ z) in
+      rw (none, et, ea, historyAt)

@@ -11,7 +11,7 @@ use borrow.Author.Tests.{lt-ltb, le-ltb, ne-eqb}
 use Rattle.fra.specs.Lists.{any}
 use Rattle.task.specs.TaskFile.{RecordKind, recordKind, bodyLength, step, refused, atStart, atEnd, readRest, readTask}
 use Rattle.task.specs.declared.Stage.{Stage}
-use Rattle.task.specs.declared.Stage.the-variants.{Start, States, Edges, Pairs, Ended}
+use Rattle.task.specs.declared.Stage.the-variants.{Start, States, Edges, Pairs, Sized, Ended}
 use Rattle.task.specs.declared.Progress.{Progress}
 use Rattle.task.specs.declared.Stepped.{Stepped}
 use Rattle.task_progress.specs.Due.{Due}
@@ -30,19 +30,22 @@ unfolding atStart readTask
 begins file = record { due = tt; spare = length file; enough = omega arith; rest = refl }
 
 -- a file that ends before its end record
-pub unended : (p : Progress) (s : Stage) → Tagged (0 ∷ 1 ∷ 2 ∷ 3 ∷ []) s → refused 2 ≡ atEnd p s
+pub unended : (p : Progress) (s : Stage) → Tagged (0 ∷ 1 ∷ 2 ∷ 3 ∷ 4 ∷ []) s → refused 2 ≡ atEnd p s
 unfolding atEnd any
 unended p Start h = refl
 unended p (States s q) h = refl
 unended p (Edges s) h = refl
 unended p Pairs h = refl
-unended p Ended h = absurd (absent (0 ∷ 1 ∷ 2 ∷ 3 ∷ []) 4 refl h)
+unended p Sized h = refl
+unended p Ended h = absurd (absent (0 ∷ 1 ∷ 2 ∷ 3 ∷ 4 ∷ []) 5 refl h)
 
 -- ── One record of the rest ──
 
-pub no-kind : (b : ℕ) → (b ≡ 1 → ⊥) → (b ≡ 2 → ⊥) → (b ≡ 3 → ⊥) → (b ≡ 4 → ⊥) → (b ≡ 15 → ⊥) → recordKind b ≡ none
+pub no-kind : (b : ℕ) → (b ≡ 1 → ⊥) → (b ≡ 2 → ⊥) → (b ≡ 3 → ⊥) → (b ≡ 4 → ⊥) → (b ≡ 5 → ⊥) → (b ≡ 15 → ⊥)
+    → recordKind b ≡ none
 unfolding recordKind
-no-kind b h₁ h₂ h₃ h₄ h₅ = rw (ne-eqb b 1 h₁, ne-eqb b 2 h₂, ne-eqb b 3 h₃, ne-eqb b 4 h₄, ne-eqb b 15 h₅)
+no-kind b h₁ h₂ h₃ h₄ h₅ h₆ =
+    rw (ne-eqb b 1 h₁, ne-eqb b 2 h₂, ne-eqb b 3 h₃, ne-eqb b 4 h₄, ne-eqb b 5 h₅, ne-eqb b 15 h₆)
 
 module _ (n : ℕ) (p : Progress) (b : ℕ) (l : List ℕ) where
   rest-unknown : recordKind b ≡ none → readRest (suc n) p (b ∷ l) ≡ refused 1

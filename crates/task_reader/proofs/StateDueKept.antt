@@ -12,13 +12,13 @@ use Rattle.fra.specs.declared.Model.{Model}
 use Rattle.fra.specs.declared.Side.{Side}
 use Rattle.fra.specs.declared.Side.the-variants.{Left, Right}
 use Rattle.fra.specs.declared.Task.{Task}
-use Rattle.task.specs.TaskFile.{refuse, withModel, headerRefusal, headed, withHeader, headerAt, header, stateRefusal, withState, afterState, stateAt, state, edgeRefusal, edgeAt, edge, pairRefusal, pairAt, pair, endAt, end, RecordKind, isHeader, isState, isEdge, isPair, isEnd, step}
+use Rattle.task.specs.TaskFile.{refuse, withModel, headerRefusal, headed, withHeader, headerAt, header, stateRefusal, withState, afterState, stateAt, state, edgeRefusal, edgeAt, edge, pairRefusal, pairAt, pair, historyRefusal, historyAt, history, endAt, end, RecordKind, isHeader, isState, isEdge, isPair, isHistory, isEnd, step}
 use Rattle.task.specs.declared.Stage.{Stage}
-use Rattle.task.specs.declared.Stage.the-variants.{Start, States, Edges, Pairs, Ended}
+use Rattle.task.specs.declared.Stage.the-variants.{Start, States, Edges, Pairs, Sized, Ended}
 use Rattle.task.specs.declared.Progress.{Progress}
 use Rattle.task.specs.declared.Stepped.{Stepped}
 use Rattle.task_progress.specs.Due.{Due}
-use Rattle.task_progress.proofs.StepResults.{header-refused, header-taken, state-refused, state-taken, edge-refused, edge-taken, pair-refused, pair-taken}
+use Rattle.task_progress.proofs.StepResults.{header-refused, header-taken, state-refused, state-taken, edge-refused, edge-taken, pair-refused, pair-taken, history-refused, history-taken}
 
 -- what a step leaves, unless it refuses
 abbrev pub Kept : Stepped → Type 0
@@ -107,6 +107,13 @@ module _ (p : Progress) (body : List ℕ) where
       by zero e = subst Kept (pair-taken p body refl refl e refl refl) (λ z. tt)
       by (suc n) e = subst Kept (pair-refused p body refl refl (suc n) e (positive n)) (refusing (suc n) p (positive n))
 
+  history-at : Kept (historyAt p body)
+  history-at = by (historyRefusal (p .task) (getD body 0 0)) refl
+    where
+      by : (n : ℕ) → n ≡ historyRefusal (p .task) (getD body 0 0) → Kept (historyAt p body)
+      by zero e = subst Kept (history-taken p body refl e refl refl) (λ z. tt)
+      by (suc n) e = subst Kept (history-refused p body refl (suc n) e (positive n)) (refusing (suc n) p (positive n))
+
   end-at : Kept (endAt p)
   unfolding endAt
   end-at z = tt
@@ -121,6 +128,7 @@ module _ (p : Progress) (body : List ℕ) where
   header-kept (Edges Left) = header-at Right
   header-kept (Edges Right) = three
   header-kept Pairs = three
+  header-kept Sized = three
   header-kept Ended = three
 
   state-kept : (s : Stage) → Due s (p .task) → Kept (state s p body)
@@ -129,6 +137,7 @@ module _ (p : Progress) (body : List ℕ) where
   state-kept (States s q) d = state-at s q d
   state-kept (Edges s) d = three
   state-kept Pairs d = three
+  state-kept Sized d = three
   state-kept Ended d = three
 
   edge-kept : (s : Stage) → Kept (edge s p body)
@@ -137,6 +146,7 @@ module _ (p : Progress) (body : List ℕ) where
   edge-kept (States s q) = three
   edge-kept (Edges s) = edge-at s
   edge-kept Pairs = three
+  edge-kept Sized = three
   edge-kept Ended = three
 
   pair-kept : (s : Stage) → Kept (pair s p body)
@@ -146,7 +156,18 @@ module _ (p : Progress) (body : List ℕ) where
   pair-kept (Edges Left) = three
   pair-kept (Edges Right) = pair-at
   pair-kept Pairs = pair-at
+  pair-kept Sized = three
   pair-kept Ended = three
+
+  history-kept : (s : Stage) → Kept (history s p body)
+  unfolding history
+  history-kept Start = three
+  history-kept (States s q) = three
+  history-kept (Edges Left) = three
+  history-kept (Edges Right) = history-at
+  history-kept Pairs = history-at
+  history-kept Sized = three
+  history-kept Ended = three
 
   end-kept : (s : Stage) → Kept (end s p)
   unfolding end
@@ -155,6 +176,7 @@ module _ (p : Progress) (body : List ℕ) where
   end-kept (Edges Left) = three
   end-kept (Edges Right) = end-at
   end-kept Pairs = end-at
+  end-kept Sized = end-at
   end-kept Ended = three
 
   pub kept : (k : RecordKind) → Due (p .stage) (p .task) → Kept (step k p body)
@@ -163,4 +185,5 @@ module _ (p : Progress) (body : List ℕ) where
   kept isState d = state-kept (p .stage) d
   kept isEdge d = edge-kept (p .stage)
   kept isPair d = pair-kept (p .stage)
+  kept isHistory d = history-kept (p .stage)
   kept isEnd d = end-kept (p .stage)

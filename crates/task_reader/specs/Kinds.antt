@@ -1,8 +1,8 @@
 -- The kinds of record as the code has them, and those of the definitions.
 use mathlib.Core.Option.{Option, none, some}
-use Rattle.task.specs.TaskFile.{RecordKind, isHeader, isState, isEdge, isPair, isEnd}
+use Rattle.task.specs.TaskFile.{RecordKind, isHeader, isState, isEdge, isPair, isHistory, isEnd}
 use Rattle.task_reader.specs.declared.Kind.{Kind}
-use Rattle.task_reader.specs.declared.Kind.the-variants.{Header, State, Edge, Pair, End}
+use Rattle.task_reader.specs.declared.Kind.the-variants.{Header, State, Edge, Pair, History, End}
 use Rattle.task_reader.specs.declared.KindByte.{KindByte}
 use Rattle.task_reader.specs.declared.KindByte.the-variants.{Of, Unknown}
 
@@ -11,6 +11,7 @@ defined Header = isHeader
 defined State = isState
 defined Edge = isEdge
 defined Pair = isPair
+defined History = isHistory
 defined End = isEnd
 
 abbrev pub announced : KindByte → Option RecordKind

@@ -1,4 +1,4 @@
-// The task reader (01, "The task file"): bytes in, both models and the matching or a refusal out.
+// The task reader (01, "The task file"): bytes in, both models and the start position or a refusal out.
 //
 // A new kind of record is a variant of `Kind` with its byte, its length and its step, below.
 use fra::Position;
@@ -12,6 +12,7 @@ use task_edges::edge;
 use task_models::header;
 use task_models::state;
 use task_pairs::end;
+use task_pairs::history;
 use task_pairs::pair;
 ghost use mathlib.Core.Path.{_≡_};
 ghost use Rattle.task.specs.TaskFile.{recordKind, bodyLength, step, noTask, refused, atStart, atEnd, readTask};
@@ -23,6 +24,7 @@ pub enum Kind {
     State,
     Edge,
     Pair,
+    History,
     End,
 }
 
@@ -40,6 +42,7 @@ fn kind_byte(byte: u8) -> KindByte
         2 => KindByte::Of(Kind::State),
         3 => KindByte::Of(Kind::Edge),
         4 => KindByte::Of(Kind::Pair),
+        5 => KindByte::Of(Kind::History),
         15 => KindByte::Of(Kind::End),
         _ => KindByte::Unknown,
     }
@@ -54,6 +57,7 @@ fn body_length(kind: Kind) -> usize
         Kind::State => 3,
         Kind::Edge => 5,
         Kind::Pair => 2,
+        Kind::History => 1,
         Kind::End => 0,
     }
 }
@@ -68,11 +72,12 @@ fn step(kind: Kind, p: Progress, body: &[u8]) -> Stepped
         Kind::State => state::step(p, body),
         Kind::Edge => edge::step(p, body),
         Kind::Pair => pair::step(p, body),
+        Kind::History => history::step(p, body),
         Kind::End => end::step(p),
     }
 }
 
-// A task of zeros.
+// A task of zeros, with a history of the greatest size.
 fn no_task() -> Task
     ensures { λ r. ⌜ r ≡ noTask ⌝ }
 {
@@ -82,6 +87,7 @@ fn no_task() -> Task
         left: m,
         right: m,
         start,
+        history_stated: false,
     }
 }
 

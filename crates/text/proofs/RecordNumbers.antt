@@ -65,5 +65,5 @@ module _ (r at : ℕ) (l : List ℕ) where
       let n = keptLength r + 3 in
       let long = part-length (lossLength r) (at + 1) l (omega arith) in
       rw (body-part (lossLength r) at l, position-bytes r body (omega arith))
-      (three-more body (wordAt body (r + 5) ∷ []) (r + 2) (r + 3) (r + 4) n (omega arith) (omega arith) (omega arith) (omega arith)
-      ∙ rw (take-take n (lossLength r) behind (omega arith), body-rounds (r + 5) (at + (keptLength r + 4)) (omega arith) (omega arith)))
+      (three-more body (wordAt body (r + 6) ∷ []) (r + 3) (r + 4) (r + 5) n (omega arith) (omega arith) (omega arith) (omega arith)
+      ∙ rw (take-take n (lossLength r) behind (omega arith), body-rounds (r + 6) (at + (keptLength r + 4)) (omega arith) (omega arith)))

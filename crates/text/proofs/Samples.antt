@@ -2,27 +2,34 @@
 use mathlib.Core.Path.{_≡_, refl}
 use mathlib.Core.List.{[], _++_}
 use lib.ListN.{replicate}
-use Rattle.outcome_marked.specs.MarkedCases.{P, G, end, outcome}
+use Rattle.outcome_marked.specs.MarkedCases.{P, G, end, sized, outcome}
 use Rattle.fra.specs.declared.Game.the-variants.{BothAttack, LeftAttacks}
 use Rattle.text.specs.Text.{ascii, digitsWithin, decimal, prints}
 
--- "On case 2 it prints"
-pub case-2-prints : prints BothAttack (P ++ G ++ end) ≡ ascii "DIFFER 2 1\nLOST 0 0 0 0 0 0 0 0 1 0 7 1\n"
+-- "On case 2 it prints"; 02, ticket 2: "printed lines show the size after the partners"
+pub case-2-prints : prints BothAttack (P ++ G ++ end) ≡ ascii "DIFFER 2 1\nLOST 0 0 0 0 0 0 0 0 13 1 0 7 1\n"
 unfolding prints outcome
 case-2-prints = refl
 
--- case 1: "EQUAL lines are `KEPT` and eight numbers."
-pub case-1-prints : prints BothAttack (P ++ P ++ end) ≡ ascii "EQUAL 2 0\nKEPT 0 0 0 0 0 0 0 0\nKEPT 1 1 1 0 0 0 0 0\n"
+-- case 1: "EQUAL lines are `KEPT`" and the numbers of a position
+pub case-1-prints : prints BothAttack (P ++ P ++ end)
+    ≡ ascii "EQUAL 2 0\nKEPT 0 0 0 0 0 0 0 0 13\nKEPT 1 1 1 0 0 0 0 0 13\n"
 unfolding prints outcome
 case-1-prints = refl
 
+-- case 2 with size 0
+pub case-2-size-0-prints : prints BothAttack (P ++ G ++ sized 0)
+    ≡ ascii "EQUAL 2 0\nKEPT 0 0 0 0 0 0 0 0 0\nKEPT 1 1 1 0 0 0 0 0 1\n"
+unfolding prints outcome
+case-2-size-0-prints = refl
+
 -- 02, ticket 1: case 2 one way, and with the sides exchanged
-pub case-2-one-way-prints : prints LeftAttacks (P ++ G ++ end) ≡ ascii "FALLS SHORT 2 1\nLOST 0 0 0 0 0 0 0 0 1 0 7 1\n"
+pub case-2-one-way-prints : prints LeftAttacks (P ++ G ++ end) ≡ ascii "FALLS SHORT 2 1\nLOST 0 0 0 0 0 0 0 0 13 1 0 7 1\n"
 unfolding prints outcome
 case-2-one-way-prints = refl
 
 pub case-2-exchanged-prints : prints LeftAttacks (G ++ P ++ end)
-    ≡ ascii "FOLLOWS 2 0\nKEPT 0 0 0 0 0 0 0 0\nKEPT 1 1 1 0 0 0 0 0\n"
+    ≡ ascii "FOLLOWS 2 0\nKEPT 0 0 0 0 0 0 0 0 13\nKEPT 1 1 1 0 0 0 0 0 13\n"
 unfolding prints outcome
 case-2-exchanged-prints = refl
 

@@ -63,11 +63,11 @@ verdictWord FallsShort = ascii "FALLS SHORT"
 abbrev pub firstLine : Verdict → ℕ → ℕ → List ℕ
 firstLine v positions rounds = lineOf (verdictWord v) (positions ∷ rounds ∷ [])
 
--- "EQUAL lines are `KEPT` and eight numbers."
+-- "EQUAL lines are `KEPT`" and the position's numbers; 02, ticket 2: "printed lines show the size after the partners"
 abbrev pub keptLine : Position → List ℕ
 keptLine p = lineOf (ascii "KEPT") (bytes p)
 
--- "per record: two states, six partners, side, edge, case, rounds"
+-- "per record: two states, six partners", the size, "side, edge, case, rounds"
 abbrev pub lossNumbers : Loss → List ℕ
 lossNumbers x = bytes (x .position) ++ (x .side ∷ x .edge ∷ x .case ∷ x .rounds ∷ [])
 

@@ -93,7 +93,7 @@ fn widen(bytes: &[u8], numbers: &mut [u32])
     }
 }
 
-// "EQUAL lines are `KEPT` and eight numbers."
+// "EQUAL lines are `KEPT`" and the numbers of a position.
 fn put_kept(certificate: &[u8], at: usize, line: &mut [u8; LINE]) -> usize
     requires { ⌜ at + widthOf Kept ≤ length (now certificate) ⌝ }
     ensures { λ r. ⌜ Puts (recordLine Kept (bodyAt (widthOf Kept) at (now (certificate .entry)))) (now (line .entry)) 0 (now (line .exit)) r ⌝ }
@@ -105,7 +105,7 @@ fn put_kept(certificate: &[u8], at: usize, line: &mut [u8; LINE]) -> usize
     put(b"KEPT", &numbers, line)
 }
 
-// "per record: two states, six partners, side, edge, case, rounds"
+// "per record: two states, six partners", the size, "side, edge, case, rounds"
 fn put_lost(certificate: &[u8], at: usize, line: &mut [u8; LINE]) -> usize
     requires { ⌜ at + widthOf Lost ≤ length (now certificate) ⌝ }
     ensures { λ r. ⌜ Puts (recordLine Lost (bodyAt (widthOf Lost) at (now (certificate .entry)))) (now (line .entry)) 0 (now (line .exit)) r ⌝ }

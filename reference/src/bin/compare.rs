@@ -12,7 +12,7 @@ const USAGE: &str = "\
 usage: reference-compare                      task on standard input, as `compare`
        reference-compare --table FILE         also writes the whole lent table to FILE
                          --certificate FILE   also writes the certificate to FILE
-                         --table-size BYTES   size of the lent table, default 48000
+                         --table-size BYTES   size of the lent table, default 52000
                          --buffer-size BYTES  size of the certificate buffer, default 64000
        reference-compare --check FILE         checker's answer to the task on standard
                                               input and the certificate in FILE

@@ -1,8 +1,10 @@
 //! The generator as a program.
 
 use reference::generate::families::{family, FAMILIES};
+use reference::generate::histories::stating;
 use reference::generate::quota::{measure, measure_proposals, quota_table};
 use reference::generate::{item, item_of_kind, ItemKind};
+use reference::model::Task;
 use reference::rules::Rules;
 use reference::task;
 use std::io::Write;
@@ -10,13 +12,15 @@ use std::io::Write;
 const USAGE: &str = "\
 usage: reference-generate item SEED INDEX [KIND]    one item's bytes to standard output
        reference-generate items SEED COUNT DIR      items 0 to COUNT - 1 as files
-       reference-generate family NAME SIZE...       a family's task to standard output
+       reference-generate family NAME SIZE... [--history N]
+                                                    a family's task to standard output,
+                                                    with a history record of size N
        reference-generate families                  names and sizes of the families
        reference-generate quota SEED COUNT          counts and the quota table
        reference-generate proposals SEED COUNT      what comes of proposed certificates
        reference-generate quota-one-way SEED COUNT      the same two in the one-way game
        reference-generate proposals-one-way SEED COUNT
-KIND is small, near, chain, cover, guess, overwrite, reach or damaged.";
+KIND is small, near, chain, cover, guess, overwrite, reach, blank or damaged.";
 
 fn main() {
     let arguments: Vec<String> = std::env::args().skip(1).collect();
@@ -43,11 +47,11 @@ fn run(words: &[&str]) -> Result<(), String> {
             put(&item_of_kind(number(seed)?, number(index)?, kind).bytes)
         }
         ["items", seed, count, directory] => items(number(seed)?, number(count)?, directory),
-        ["family", name, sizes @ ..] => {
-            let sizes: Result<Vec<u64>, String> = sizes.iter().map(|s| number(s)).collect();
-            let sizes: Vec<usize> = sizes?.into_iter().map(|s| s as usize).collect();
-            put(&task::write(&family(name, &sizes)?))
+        ["family", name, sizes @ .., "--history", size] => {
+            let size = size.parse().map_err(|_| format!("{size} is no size"))?;
+            put(&task::write(&stating(sized_family(name, sizes)?, size)?))
         }
+        ["family", name, sizes @ ..] => put(&task::write(&sized_family(name, sizes)?)),
         ["families"] => {
             for (name, sizes, meaning) in FAMILIES {
                 println!("{name:<14} {sizes:<4} {meaning}");
@@ -57,6 +61,12 @@ fn run(words: &[&str]) -> Result<(), String> {
         [word, seed, count] => measured(word, seed, count),
         _ => Err(USAGE.to_string()),
     }
+}
+
+fn sized_family(name: &str, sizes: &[&str]) -> Result<Task, String> {
+    let sizes: Result<Vec<u64>, String> = sizes.iter().map(|s| number(s)).collect();
+    let sizes: Vec<usize> = sizes?.into_iter().map(|s| s as usize).collect();
+    family(name, &sizes)
 }
 
 /// The counts of one game.

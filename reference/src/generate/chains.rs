@@ -11,7 +11,7 @@ pub fn chain_pair(random: &mut Random) -> Task {
         return ring_pair_of_two_lengths(random);
     }
     let states = random.weighted(&[(5, 4), (5, 5), (5, 6), (4, 8), (3, 11), (3, 16)]);
-    let mut left = spine(random, states);
+    let mut left = spine(random, states, &[[2, 2, 1], [3, 1, 1], [1, 2, 2], [1, 3, 0]]);
     add_backward_edges(random, &mut left);
     let (mut right, names) = renamed(random, &left);
     // The renaming is undone for the states, so that the last one is known.
@@ -24,14 +24,15 @@ pub fn chain_pair(random: &mut Random) -> Task {
     if random.chance(6) && !pairs.is_empty() {
         pairs.remove(random.below(pairs.len()));
     }
-    maybe_exchanged(random, Task { left, right, pairs })
+    maybe_exchanged(random, Task::new(left, right, pairs))
 }
 
-/// States 0 to n - 1, each with an edge to the next.
-fn spine(random: &mut Random, states: usize) -> Model {
+/// States 0 to n - 1, each with an edge to the next. The weights of the edge
+/// kinds are drawn from a list.
+pub fn spine(random: &mut Random, states: usize, kinds: &[[usize; 3]]) -> Model {
     let count = random.between(1, 3);
     let used = some_registers(random, count);
-    let weights = *random.pick(&[[2, 2, 1], [3, 1, 1], [1, 2, 2], [1, 3, 0]]);
+    let weights = *random.pick(kinds);
     let mut set = random_subset(random, set_of(&used), 80);
     let mut sets = vec![set];
     let mut edges = Vec::new();

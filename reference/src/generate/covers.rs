@@ -30,7 +30,7 @@ pub fn cover_pair(random: &mut Random) -> Task {
         alter(random, &mut left);
     }
     let pairs = random_pairs(random, &left, &right);
-    maybe_exchanged(random, Task { left, right, pairs })
+    maybe_exchanged(random, Task::new(left, right, pairs))
 }
 
 /// Covers over a chain that differ in the end mark of the last state, or in
@@ -55,7 +55,7 @@ fn cover_chain_pair(random: &mut Random) -> Task {
         tidy(&mut left);
     }
     let pairs = random_pairs(random, &left, &right);
-    maybe_exchanged(random, Task { left, right, pairs })
+    maybe_exchanged(random, Task::new(left, right, pairs))
 }
 
 /// Every state has the same set, so that every edge keeps its rule.
@@ -90,6 +90,9 @@ fn cover(random: &mut Random, graph: &Graph) -> Model {
 /// All states hold the same two to five registers, and fresh edges write
 /// all of them, so that most matchings are reached.
 pub fn reach_pair(random: &mut Random) -> Task {
+    if random.chance(2) {
+        return long_certificate(random);
+    }
     let sizes = [
         (40, (2, 3)),
         (40, (3, 2)),
@@ -104,7 +107,14 @@ pub fn reach_pair(random: &mut Random) -> Task {
     let left = writer(random, registers, states, known_percent);
     let right = writer(random, registers, states, known_percent);
     let pairs = random_pairs(random, &left, &right);
-    Task { left, right, pairs }
+    Task::new(left, right, pairs)
+}
+
+/// Up to 4,000 positions, and more than 64,000 bytes of certificate: refused
+/// with 12 by the program `compare`. Some that are a little smaller, too.
+fn long_certificate(random: &mut Random) -> Task {
+    let (states, registers, replies) = *random.pick(&[(14, 6, 3), (13, 5, 4), (13, 6, 3)]);
+    super::families::listed(states, registers, replies)
 }
 
 fn writer(random: &mut Random, count: usize, states: usize, known_percent: usize) -> Model {

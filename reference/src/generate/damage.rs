@@ -9,7 +9,7 @@ type Records = Vec<Vec<u8>>;
 
 pub fn damaged(random: &mut Random, task: &Task) -> Vec<u8> {
     let mut list = records(task);
-    match random.below(14) {
+    match random.below(16) {
         0 => unknown_kind(random, &mut list),
         1 => return cut(random, &list),
         2 => misplaced(random, &mut list),
@@ -22,6 +22,8 @@ pub fn damaged(random: &mut Random, task: &Task) -> Vec<u8> {
         9 => bad_pair(random, &mut list, task),
         10 => after_the_end(random, &mut list),
         11 => two_damages(random, &mut list),
+        14 => wrong_history(random, &mut list, task),
+        15 => misplaced_history(random, &mut list),
         _ if random.chance(10) => return noise(random),
         _ => return random_bytes_changed(random, list.concat()),
     }
@@ -58,7 +60,7 @@ fn misplaced(random: &mut Random, list: &mut Records) {
             list.insert(place, record);
         }
         2 => {
-            let kind = *random.pick(&[HEADER, STATE, EDGE, PAIR, END]);
+            let kind = *random.pick(&[HEADER, STATE, EDGE, PAIR, HISTORY, END]);
             let body = random.bytes(body_length(kind).expect("a kind"));
             list.insert(place, record(kind, &body));
         }
@@ -171,11 +173,11 @@ fn too_many_edges(random: &mut Random) -> Vec<u8> {
     let large = Model { registers, start: 0, states, edges };
     let small = Model { edges: large.edges[..3].to_vec(), ..large.clone() };
     let (left, right) = if random.chance(50) { (large, small) } else { (small, large) };
-    write(&Task { left, right, pairs: Vec::new() })
+    write(&Task::new(left, right, Vec::new()))
 }
 
 fn bad_pair(random: &mut Random, list: &mut Records, task: &Task) {
-    let end = list.len() - 1;
+    let end = list.len() - 1 - task.history_record.iter().len();
     let left: Vec<u8> = task.left.start_set().iter().collect();
     let right: Vec<u8> = task.right.start_set().iter().collect();
     let pairs = places(list, PAIR);
@@ -195,9 +197,46 @@ fn bad_pair(random: &mut Random, list: &mut Records, task: &Task) {
     }
 }
 
+/// A history's size above 13, or below the numbers held at the start.
+fn wrong_history(random: &mut Random, list: &mut Records, task: &Task) {
+    list.retain(|record| record[0] != HISTORY);
+    let held = task.held_at_start() as usize;
+    let size = match random.below(4) {
+        0 => MAX_HISTORY as usize + 1,
+        1 => random.between(MAX_HISTORY as usize + 1, 255),
+        2 if held > 0 => random.below(held),
+        _ if held > 0 => held - 1,
+        _ => 255,
+    };
+    list.insert(list.len() - 1, record(HISTORY, &[size as u8]));
+}
+
+/// A history record that stands twice, before a pair, after the end, is cut,
+/// or stands anywhere. Its size is sometimes wrong besides; where only the
+/// end comes after it, all may be right.
+fn misplaced_history(random: &mut Random, list: &mut Records) {
+    list.retain(|record| record[0] != HISTORY);
+    let history = record(HISTORY, &[random.between(8, 15) as u8]);
+    let end = list.len() - 1;
+    let pairs = places(list, PAIR);
+    match random.below(5) {
+        0 => {
+            list.insert(end, history);
+            list.insert(end, record(HISTORY, &[MAX_HISTORY]));
+        }
+        1 if !pairs.is_empty() => list.insert(*random.pick(&pairs), history),
+        2 => list.push(history),
+        3 => {
+            list.truncate(end);
+            list.push(vec![HISTORY]);
+        }
+        _ => list.insert(random.below(end + 1), history),
+    }
+}
+
 fn after_the_end(random: &mut Random, list: &mut Records) {
     let any = random.byte();
-    let kind = *random.pick(&[HEADER, STATE, EDGE, PAIR, END, any]);
+    let kind = *random.pick(&[HEADER, STATE, EDGE, PAIR, HISTORY, END, any]);
     let body = random.bytes(body_length(kind).unwrap_or(2));
     let mut extra = record(kind, &body);
     if random.chance(40) {

@@ -13,6 +13,7 @@ pub const FAMILIES: &[(&str, &str, &str)] = &[
     ("chain", "N", "N states in a row, end mark on the last of one side; N - 1 rounds"),
     ("rings", "A B", "rings of A and B states, A > B coprime; A + B - 2 rounds if A = B + 1"),
     ("rings-fresh", "A B R", "rings with R registers held and globally fresh edges; large reach"),
+    ("listed", "S R W", "S states in a row, R registers held, W replies; all is lost and listed"),
     ("exact", "N", "N positions exactly, where 15 looping states can add up to it; EQUAL"),
 ];
 
@@ -32,6 +33,9 @@ pub fn family(name: &str, sizes: &[usize]) -> Result<Task, String> {
         "rings" if fits(&[(2, 16), (2, 16)]) => Ok(rings(sizes[0], sizes[1])),
         "rings-fresh" if fits(&[(2, 16), (2, 16), (1, 6)]) => {
             Ok(rings_fresh(sizes[0], sizes[1], sizes[2]))
+        }
+        "listed" if fits(&[(2, 16), (1, 6), (1, 4)]) && sizes[2] <= sizes[1] => {
+            Ok(listed(sizes[0], sizes[1], sizes[2]))
         }
         "exact" if fits(&[(1, 20_000)]) => exact(sizes[0]).ok_or_else(none),
         _ => Err(none()),
@@ -61,7 +65,7 @@ fn dearest(registers: usize, known: bool) -> Task {
     let states = uniform_states(1, registers);
     let mut model = Model { registers: registers as u8, start: 0, states, edges };
     tidy(&mut model);
-    Task { left: model.clone(), right: model, pairs: Vec::new() }
+    Task::new(model.clone(), model, Vec::new())
 }
 
 /// A ring of `states` states that all hold the same registers. The left
@@ -75,7 +79,7 @@ fn ring(states: usize, registers: usize, equal: bool) -> Task {
     let kind = if equal { Kind::GloballyFresh } else { Kind::LocallyFresh };
     let left = ring_model(states, registers, kind, |_| true);
     let right = ring_model(states, registers, kind, |place| place % 2 == 0);
-    Task { left, right, pairs: Vec::new() }
+    Task::new(left, right, Vec::new())
 }
 
 /// The ring of equal readers, but for an end mark on the last state of each.
@@ -130,7 +134,7 @@ pub fn chain(states: usize) -> Task {
     let left = known_path(states, false);
     let mut right = left.clone();
     right.states[states - 1].end_mark = 1;
-    Task { left, right, pairs: vec![(1, 1)] }
+    Task::new(left, right, vec![(1, 1)])
 }
 
 /// Two rings, each with one end mark, on state B - 1. If A = B + 1, the
@@ -154,7 +158,31 @@ fn marked_rings(mut left: Model, mut right: Model) -> Task {
     let marked_left = marked.min(left.states.len() - 1);
     left.states[marked_left].end_mark = 1;
     right.states[marked].end_mark = 1;
-    Task { left, right, pairs: Vec::new() }
+    Task::new(left, right, Vec::new())
+}
+
+/// Two chains of states. The left reader has one globally fresh edge in each
+/// state and so one attack, the right one has several replies. The left end
+/// mark at the end differs, so every position is lost; and as the left
+/// attacks lead to all positions, every one is listed.
+pub fn listed(states: usize, registers: usize, replies: usize) -> Task {
+    let chain = |width: usize| {
+        let mut edges = Vec::new();
+        for from in 0..states - 1 {
+            for place in 0..width {
+                let register = ((from + place) % registers + 1) as u8;
+                let (from, to) = (from as u8, from as u8 + 1);
+                edges.push(Edge { from, tag: 0, kind: Kind::GloballyFresh, register, to });
+            }
+        }
+        let states = uniform_states(states, registers);
+        let mut model = Model { registers: registers as u8, start: 0, states, edges };
+        tidy(&mut model);
+        model
+    };
+    let (mut left, right) = (chain(1), chain(replies));
+    left.states[states - 1].end_mark = 1;
+    Task::new(left, right, Vec::new())
 }
 
 /// Positions reached by two equal states that hold 0 to 5 registers and have
@@ -189,5 +217,5 @@ fn exact(positions: usize) -> Option<Task> {
     let mut model = Model { registers: 6, start: 0, states, edges };
     tidy(&mut model);
     let fits = model.states.len() <= MAX_STATES && model.edges.len() <= MAX_EDGES;
-    fits.then(|| Task { left: model.clone(), right: model, pairs: Vec::new() })
+    fits.then(|| Task::new(model.clone(), model, Vec::new()))
 }

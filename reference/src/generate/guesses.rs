@@ -56,7 +56,7 @@ pub fn guess_pair(random: &mut Random) -> Task {
         renamed(random, &plain)
     };
     let pairs = pairs_by_name(&left, &names);
-    maybe_exchanged(random, Task { left, right, pairs })
+    maybe_exchanged(random, Task::new(left, right, pairs))
 }
 
 /// From `from` by way of `length` states, numbered from `next`, to `to`.

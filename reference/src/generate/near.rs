@@ -21,7 +21,7 @@ pub fn unrelated(random: &mut Random) -> Task {
     let left = random_model(random, &shape);
     let right = random_model(random, &shape);
     let pairs = random_pairs(random, &left, &right);
-    Task { left, right, pairs }
+    Task::new(left, right, pairs)
 }
 
 /// Some registers of the start states, joined at random.
@@ -84,7 +84,7 @@ pub fn near_pair(random: &mut Random) -> Task {
     if random.chance(24) && !pairs.is_empty() {
         pairs.remove(random.below(pairs.len()));
     }
-    maybe_exchanged(random, Task { left, right, pairs })
+    maybe_exchanged(random, Task::new(left, right, pairs))
 }
 
 fn start_where_something_is_held(random: &mut Random, model: &mut Model) {

@@ -85,5 +85,5 @@ pub fn overwrite_pair(random: &mut Random) -> Task {
     let plain = right.model(random, writes + 1);
     let (right, names) = renamed(random, &plain);
     let pairs = pairs_by_name(&left, &names);
-    maybe_exchanged(random, Task { left, right, pairs })
+    maybe_exchanged(random, Task::new(left, right, pairs))
 }

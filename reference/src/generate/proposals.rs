@@ -31,6 +31,15 @@ pub enum ProposalKind {
     IllegalPosition,
     Empty,
     Noise,
+    /// One record with another history size, and all else as it was.
+    SizeAltered,
+    /// Records that differ in the history's size alone, put in with no regard
+    /// to what they need.
+    SizeTwins,
+    /// As these, with all that they need; right.
+    RightTwins,
+    /// A history size above 13 or below the numbers held together.
+    IllegalSize,
     /// A list with kinds of the other game.
     OtherKinds,
     /// The other game's own list, under this game's kinds.
@@ -38,7 +47,7 @@ pub enum ProposalKind {
 }
 
 impl ProposalKind {
-    pub const ALL: [ProposalKind; 17] = [
+    pub const ALL: [ProposalKind; 21] = [
         ProposalKind::Right,
         ProposalKind::ByteAltered,
         ProposalKind::Cut,
@@ -54,6 +63,10 @@ impl ProposalKind {
         ProposalKind::IllegalPosition,
         ProposalKind::Empty,
         ProposalKind::Noise,
+        ProposalKind::SizeAltered,
+        ProposalKind::SizeTwins,
+        ProposalKind::RightTwins,
+        ProposalKind::IllegalSize,
         ProposalKind::OtherKinds,
         ProposalKind::OtherRules,
     ];
@@ -75,6 +88,10 @@ impl ProposalKind {
             "illegal-position",
             "empty",
             "noise",
+            "size-altered",
+            "size-twins",
+            "right-twins",
+            "illegal-size",
             "other-kinds",
             "other-rules",
         ][self as usize]
@@ -84,20 +101,21 @@ impl ProposalKind {
         ProposalKind::ALL.into_iter().find(|k| k.name() == name)
     }
 
-    /// The kinds that are drawn at random in a game. Those that come of the
-    /// other game are drawn in the one-way game alone, so that in the two-way
-    /// game a seed has the cases that it had before there was another.
+    /// The kinds that are drawn at random in a game. The last two come of the
+    /// other game and are drawn in the one-way game alone; by name they can be
+    /// had in either.
     pub fn drawn(rules: Rules) -> &'static [ProposalKind] {
+        let all = &ProposalKind::ALL;
         match rules == Rules::TWO_WAY {
-            true => &ProposalKind::ALL[..15],
-            false => &ProposalKind::ALL,
+            true => &all[..all.len() - 2],
+            false => all,
         }
     }
 
     /// Whether the checker has to accept what is made under this name.
     pub fn is_right(self) -> bool {
         use ProposalKind::*;
-        matches!(self, Right | Larger | MoreRounds | MarkedLater | OtherAttack)
+        matches!(self, Right | Larger | MoreRounds | MarkedLater | OtherAttack | RightTwins)
     }
 }
 
@@ -145,6 +163,10 @@ pub fn proposal(
         ProposalKind::IllegalPosition => illegal_position(random, solution),
         ProposalKind::Empty => Vec::new(),
         ProposalKind::Noise => noise(random, solution.rules),
+        ProposalKind::SizeAltered => size_altered(random, solution),
+        ProposalKind::SizeTwins => size_twins(random, task, solution),
+        ProposalKind::RightTwins => right_twins(random, task, solution),
+        ProposalKind::IllegalSize => illegal_size(random, task, solution),
         ProposalKind::OtherKinds => other_kinds(random, task, solution),
         ProposalKind::OtherRules => {
             under_kinds(solution.rules, &solve(solution.rules.other(), task)).concat()
@@ -181,7 +203,7 @@ fn two_kinds(random: &mut Random, solution: &Solution) -> Vec<u8> {
     let rules = solution.rules;
     let mut list = cut_records(solution);
     let place = random.below(list.len());
-    let position = Position::from_bytes(&list[place][1..9]);
+    let position = listed_position(&list[place]);
     list[place] = match solution.verdict.is_kept() {
         true => lost_record(rules, &position, None, 0),
         false => kept_record(rules, &position),
@@ -205,7 +227,17 @@ fn random_position(random: &mut Random, task: &Task) -> Position {
             partners[register as usize - 1] = free.pop().unwrap_or(0);
         }
     }
-    Position { left, right, partners }
+    let mut position = Position { left, right, partners, history: task.history() };
+    // Mostly the task's own size, since a smaller one has a large reach.
+    if random.chance(20) || !position.is_legal(task) {
+        position.history = legal_size(random, task, &position);
+    }
+    position
+}
+
+/// A history size that is legal for the states and partners of a position.
+fn legal_size(random: &mut Random, task: &Task, position: &Position) -> u8 {
+    random.between(position.held_together(task) as usize, MAX_HISTORY as usize) as u8
 }
 
 /// The start, some further legal positions, and all that is reached.
@@ -220,11 +252,21 @@ fn wider_reach(random: &mut Random, rules: Rules, task: &Task) -> Vec<(Position,
 /// A set that holds together, or an attack list, over more positions than
 /// needed.
 fn larger(random: &mut Random, task: &Task, solution: &Solution) -> Vec<u8> {
+    let entries = wider_reach(random, solution.rules, task);
+    settled_list(random, task, solution, &entries)
+}
+
+/// All settled positions that go with the verdict.
+fn settled_list(
+    random: &mut Random,
+    task: &Task,
+    solution: &Solution,
+    entries: &[(Position, u32)],
+) -> Vec<u8> {
     let rules = solution.rules;
-    let entries = wider_reach(random, rules, task);
     match solution.verdict.is_kept() {
-        true => kept_bytes(rules, &entries, |rounds| rounds == NEVER_LOST),
-        false => lost_bytes(rules, &all_lost(random, rules, task, &entries)),
+        true => kept_bytes(rules, entries, |rounds| rounds == NEVER_LOST),
+        false => lost_bytes(rules, &all_lost(random, rules, task, entries)),
     }
 }
 
@@ -347,11 +389,11 @@ fn wrong_attack(random: &mut Random, solution: &Solution) -> Vec<u8> {
     let place = random.below(list.len());
     let record = &mut list[place];
     match random.below(5) {
-        0 => record[9] = *random.pick(&[0, 1, 2, 3, 255]),
-        1 => record[10] = *random.pick(&[0, 1, 2, 3, 63, 64, 255]),
-        2 => record[11] = *random.pick(&[0, 1, 2, 3, 4, 5, 6, 7, 8, 9, 255]),
-        3 => record[15] = record[15].wrapping_sub(1),
-        _ => record[9..].fill(0),
+        0 => record[SIDE_AT] = *random.pick(&[0, 1, 2, 3, 255]),
+        1 => record[EDGE_AT] = *random.pick(&[0, 1, 2, 3, 63, 64, 255]),
+        2 => record[CASE_AT] = *random.pick(&[0, 1, 2, 3, 4, 5, 6, 7, 8, 9, 255]),
+        3 => record[LOST_LENGTH - 1] = record[LOST_LENGTH - 1].wrapping_sub(1),
+        _ => record[SIDE_AT..].fill(0),
     }
     list.concat()
 }
@@ -386,6 +428,68 @@ fn illegal_position(random: &mut Random, solution: &Solution) -> Vec<u8> {
         1 => record[random.between(3, 8)] = random.between(1, 7) as u8,
         _ => record[3..9].fill(random.between(1, 6) as u8),
     }
+    list.concat()
+}
+
+fn size_altered(random: &mut Random, solution: &Solution) -> Vec<u8> {
+    let mut list = cut_records(solution);
+    let place = random.below(list.len());
+    let size = &mut list[place][SIZE_AT];
+    *size = match random.below(4) {
+        0 => size.wrapping_sub(1),
+        1 => *size + 1,
+        2 => random.between(0, MAX_HISTORY as usize) as u8,
+        _ => random.byte(),
+    };
+    list.concat()
+}
+
+/// For some listed positions the same with another legal size, beside them
+/// or in their place; fields that follow are kept.
+fn size_twins(random: &mut Random, task: &Task, solution: &Solution) -> Vec<u8> {
+    let in_place = random.chance(30);
+    let mut list = BTreeMap::new();
+    for record in cut_records(solution) {
+        let position = listed_position(&record);
+        let chosen = random.chance(40);
+        if chosen {
+            let mut twin = record.clone();
+            twin[SIZE_AT] = legal_size(random, task, &position);
+            list.insert(listed_position(&twin), twin);
+        }
+        if !(chosen && in_place) {
+            list.insert(position, record);
+        }
+    }
+    list.into_values().flatten().collect()
+}
+
+/// The positions of the list and some twins of them, with all that is
+/// reached.
+fn right_twins(random: &mut Random, task: &Task, solution: &Solution) -> Vec<u8> {
+    let listed: Vec<Position> = cut_records(solution).iter().map(|r| listed_position(r)).collect();
+    let mut starts = vec![Position::start(task)];
+    for _ in 0..random.between(1, 3) {
+        let mut twin = *random.pick(&listed);
+        twin.history = legal_size(random, task, &twin);
+        starts.push(twin);
+    }
+    let entries = settle_from(solution.rules, task, &starts);
+    settled_list(random, task, solution, &entries)
+}
+
+fn illegal_size(random: &mut Random, task: &Task, solution: &Solution) -> Vec<u8> {
+    let mut list = cut_records(solution);
+    let place = random.below(list.len());
+    let held = listed_position(&list[place]).held_together(task) as usize;
+    let above = MAX_HISTORY as usize + 1;
+    let size = match random.below(4) {
+        0 => above,
+        1 if held > 0 => held - 1,
+        2 if held > 0 => random.below(held),
+        _ => random.between(above, 255),
+    };
+    list[place][SIZE_AT] = size as u8;
     list.concat()
 }
 

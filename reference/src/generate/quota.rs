@@ -1,9 +1,12 @@
-//! The quotas that the generator has to meet, and the table of them.
+//! The quotas that the generator has to meet, and the table of them. Tasks
+//! are solved by the baseline, which is quick and gives the same solutions.
 
+use super::histories::SizeClass;
 use super::proposals::{proposal, ProposalKind};
 use super::{item, Item};
+use crate::baseline::solve;
 use crate::check::check_by;
-use crate::compare::solve;
+use crate::model::{Task, MAX_HISTORY};
 use crate::random::Random;
 use crate::rules::Rules;
 use crate::tally::Tally;
@@ -24,6 +27,10 @@ pub fn measure_items(rules: Rules, items: impl Iterator<Item = Item>) -> Tally {
                 let solution = solve(rules, &task);
                 tally.add_outcome(&task, &solution);
                 tally.add_features(&task, &solution);
+                if task.history() < MAX_HISTORY {
+                    let with_13 = Task { history_record: None, ..task.clone() };
+                    tally.add_beside_13(&solve(rules, &with_13), &solution);
+                }
                 if rules != Rules::TWO_WAY {
                     tally.add_beside(&solve(Rules::TWO_WAY, &task), &solution);
                 }
@@ -60,12 +67,9 @@ pub fn measure_proposals(rules: Rules, seed: u64, count: u64) -> Tally {
 }
 
 /// Each quota for 20,000 items: key and least count. Known and globally
-/// fresh edges can meet but never reply to each other. A locally fresh
-/// attack never has case 8 in the comparer's certificates, since case 7 has
-/// the same replies or fewer and comes first; so no certificate has a
-/// globally fresh reply to a locally fresh attack. Where one side attacks,
-/// certificates have fewer attacks; and both outcomes that part from the
-/// two-way ones are asked for.
+/// fresh edges can meet but never reply to each other. Where one side
+/// attacks, certificates have fewer attacks; and both outcomes that part from
+/// the two-way ones are asked for.
 pub fn quotas(rules: Rules) -> Vec<(String, u64)> {
     let kept = rules.kept.key().to_lowercase();
     let mut list = vec![
@@ -78,7 +82,7 @@ pub fn quotas(rules: Rules) -> Vec<(String, u64)> {
         list.push(("beside:DIFFER-and-lost-later".to_string(), 200));
     }
     let in_certificates = 100 * rules.attackers.len() as u64;
-    list.extend((1..=10).map(|n| (format!("refusal:{n}"), 200)));
+    list.extend((1..=10).chain([15]).map(|n| (format!("refusal:{n}"), 200)));
     list.extend((0..=8).map(|n| (format!("case:{n}"), 200)));
     let kinds = ["known", "local", "global"];
     for left in kinds {
@@ -89,8 +93,33 @@ pub fn quotas(rules: Rules) -> Vec<(String, u64)> {
     for pair in REPLY_PAIRS {
         list.push((format!("reply:{pair}"), 200));
     }
-    for pair in REPLY_PAIRS.into_iter().filter(|p| *p != "local-global") {
-        list.push((format!("certificate-reply:{pair}"), in_certificates));
+    for pair in REPLY_PAIRS {
+        // The left side comes first, so only its locally fresh edges are
+        // listed with a globally fresh reply, in either game.
+        let least = if pair == "local-global" { 100 } else { in_certificates };
+        list.push((format!("certificate-reply:{pair}"), least));
+    }
+    list.extend(history_quotas(rules));
+    list
+}
+
+/// Every outcome with every class of history size; and small histories that
+/// change the outcome, or make case 8 of a locally fresh edge the first
+/// attack, which with a history of 13 it never is: there case 7 comes before
+/// it, has the same replies or fewer and leads to the same positions.
+fn history_quotas(rules: Rules) -> Vec<(String, u64)> {
+    let mut list = Vec::new();
+    let in_certificates = 100 * rules.attackers.len() as u64;
+    for class in SizeClass::ALL.map(SizeClass::name) {
+        for verdict in [rules.kept, rules.lost] {
+            list.push((format!("history:{class}:{}", verdict.key()), 200));
+        }
+        list.push((format!("history:{class}:rounds-at-least-3"), 100));
+    }
+    for key in
+        ["beside-13:kept-by-a-small-history", "beside-13:lost-later", "case:8-of-a-local-edge"]
+    {
+        list.push((key.to_string(), in_certificates));
     }
     list
 }

@@ -33,8 +33,8 @@ fn expect(task: &[u8], certificate: &[&str], wanted: CheckAnswer) {
     expect_by(Rules::TWO_WAY, task, certificate, wanted);
 }
 
-const START: &str = "10 00 00 00 00 00 00 00 00 ";
-const AFTER: &str = "10 01 01 01 00 00 00 00 00 ";
+const START: &str = "10 00 00 00 00 00 00 00 00 0d ";
+const AFTER: &str = "10 01 01 01 00 00 00 00 00 0d ";
 
 fn bisimulations() {
     let task = task_of(model_p(), model_p(), &[]);
@@ -43,8 +43,8 @@ fn bisimulations() {
     expect(&task, &[AFTER], refused(14));
     expect(&task, &[], refused(14));
     // Legal, never reached, not to be replied to.
-    expect(&task, &[START, "10 01 01 00 00 00 00 00 00 ", AFTER], refused(14));
-    expect(&task, &[START, "10 00 01 00 00 00 00 00 00 ", AFTER], refused(14));
+    expect(&task, &[START, "10 01 01 00 00 00 00 00 00 0d ", AFTER], refused(14));
+    expect(&task, &[START, "10 00 01 00 00 00 00 00 00 0d ", AFTER], refused(14));
     // P and G: no reply to case 7.
     expect(&task_of(model_p(), model_g(), &[]), &[START, AFTER], refused(14));
     // A larger bisimulation: a second state of both readers, never reached,
@@ -52,12 +52,12 @@ fn bisimulations() {
     let idle = hex("01 00 02 00  02 00 00 00  02 01 00 00");
     let idle_task = task_of(idle.clone(), idle, &[]);
     expect(&idle_task, &[START], EQUAL);
-    expect(&idle_task, &[START, "10 01 01 00 00 00 00 00 00"], EQUAL);
+    expect(&idle_task, &[START, "10 01 01 00 00 00 00 00 00 0d"], EQUAL);
 }
 
 fn attack_lists() {
     let task = task_of(model_p(), model_g(), &[]);
-    let position = "11 00 00 00 00 00 00 00 00 ";
+    let position = "11 00 00 00 00 00 00 00 00 0d ";
     expect(&task, &[position, "01 00 07 00 00 00 01"], differ(1));
     expect(&task, &[position, "01 00 07 00 00 01 02"], differ(258));
     expect(&task, &[position, "01 00 07 ff ff ff ff"], differ(u32::MAX));
@@ -80,9 +80,9 @@ fn attack_lists() {
 
 fn case_11() {
     let task = task_11();
-    let start = |fields: &str| format!("11 00 00 01 00 00 00 00 00 {fields} ");
-    let one = |fields: &str| format!("11 01 01 01 00 00 00 00 00 {fields} ");
-    let two = |fields: &str| format!("11 01 02 01 00 00 00 00 00 {fields} ");
+    let start = |fields: &str| format!("11 00 00 01 00 00 00 00 00 0d {fields} ");
+    let one = |fields: &str| format!("11 01 01 01 00 00 00 00 00 0d {fields} ");
+    let two = |fields: &str| format!("11 01 02 01 00 00 00 00 00 0d {fields} ");
     let good =
         [start("01 00 00 00 00 00 02"), one("01 02 00 00 00 00 01"), two("01 01 00 00 00 00 01")];
     let run = |list: &[&String], wanted| {
@@ -113,13 +113,14 @@ fn ill_formed() {
         expect(&task, &[START, AFTER, kind], refused(13));
     }
     // Two kinds, each record whole.
-    let lost = "11 01 01 01 00 00 00 00 00 00 00 00 00 00 00 00 ";
+    let lost = "11 01 01 01 00 00 00 00 00 0d 00 00 00 00 00 00 00 ";
     expect(&task, &[START, lost], refused(13));
-    expect(&task, &["11 00 00 00 00 00 00 00 00 01 00 07 00 00 00 01 ", AFTER], refused(13));
+    expect(&task, &["11 00 00 00 00 00 00 00 00 0d 01 00 07 00 00 00 01 ", AFTER], refused(13));
     // Cut bodies.
     expect(&task, &[START, AFTER, "10"], refused(13));
-    expect(&task, &[START, "10 01 01 01 00 00 00 00"], refused(13));
-    expect(&task, &["11 00 00 00 00 00 00 00 00 01 00 07 00 00 00"], refused(13));
+    expect(&task, &[START, "10 01 01 01 00 00 00 00 00"], refused(13));
+    expect(&task, &["11 00 00 00 00 00 00 00 00 01 00 07 00 00 00 01"], refused(13));
+    expect(&task, &["11 00 00 00 00 00 00 00 00 0d 01 00 07 00 00 00"], refused(13));
     // Illegal positions: states, partners outside the sets, a right register
     // twice, partners beyond 6.
     for position in [
@@ -132,8 +133,8 @@ fn ill_formed() {
         "01 01 ff 00 00 00 00 00",
         "01 00 01 00 00 00 00 00",
     ] {
-        expect(&task, &["10 ", position], refused(13));
-        expect(&task, &["11 ", position, " 00 00 00 00 00 00 00"], refused(13));
+        expect(&task, &["10 ", position, " 0d"], refused(13));
+        expect(&task, &["11 ", position, " 0d 00 00 00 00 00 00 00"], refused(13));
     }
     // Not strictly rising.
     expect(&task, &[AFTER, START], refused(13));
@@ -150,7 +151,7 @@ fn end_marks() {
     let one = hex("01 01 01 00  02 00 01 01  03 00 00 01 01 00");
     let zero = hex("01 01 01 00  02 00 01 00");
     let task = task_of(one, zero, &[]);
-    let position = "11 00 00 00 00 00 00 00 00 ";
+    let position = "11 00 00 00 00 00 00 00 00 0d ";
     expect(&task, &[START], refused(14));
     expect(&task, &[position, "00 00 00 00 00 00 00"], differ(0));
     // Zero rounds go with zero fields.

@@ -3,10 +3,10 @@
 
 use crate::whole::{assert_least_count, is_small, random_opening, rounds_at_start, tasks};
 use crate::Test;
-use reference::certificate::LOST_LENGTH;
+use reference::certificate::{listed_position, LOST_LENGTH, SIDE_AT};
 use reference::check::{check_by, CheckAnswer};
 use reference::compare::*;
-use reference::game::{attacks, Position};
+use reference::game::attacks;
 use reference::model::*;
 use reference::numbers::Game;
 use reference::random::Random;
@@ -39,7 +39,7 @@ fn assert_sooner(two: &Solution, one: &Solution) {
 
 fn equal_gives_follows() {
     let mut seen = Tally::default();
-    for task in tasks(95, 6000) {
+    for task in tasks(95, 4500) {
         let (two, one) = (solve(TWO_WAY, &task), solve(ONE_WAY, &task));
         let back = solve(ONE_WAY, &task.exchanged());
         assert_sooner(&two, &one);
@@ -65,7 +65,7 @@ fn equal_gives_follows() {
 /// positions are kept one way.
 fn equal_within_lent_sizes() {
     let mut refusals = Tally::default();
-    for task in tasks(96, 6000) {
+    for task in tasks(96, 4500) {
         let two = solve(TWO_WAY, &task);
         if two.verdict != Verdict::Equal {
             continue;
@@ -136,15 +136,15 @@ fn right_attacks() {
 fn with_right_attacks(task: &Task, solution: &Solution) -> Vec<Vec<u8>> {
     let mut list = Vec::new();
     for (place, record) in solution.certificate.chunks(LOST_LENGTH).enumerate() {
-        let position = Position::from_bytes(&record[1..9]);
-        if record[9] == 0 {
+        let position = listed_position(record);
+        if record[SIDE_AT] == 0 {
             continue;
         }
         let all = attacks(TWO_WAY, task, &position).into_iter();
         for attack in all.filter(|a| a.side == Side::Right) {
             let fields = [attack.side.number(), attack.edge, attack.case];
             let mut altered = solution.certificate.clone();
-            altered[place * LOST_LENGTH + 9..][..3].copy_from_slice(&fields);
+            altered[place * LOST_LENGTH + SIDE_AT..][..3].copy_from_slice(&fields);
             list.push(altered);
         }
     }

@@ -1,9 +1,8 @@
 //! The generator's quotas, and that they can be missed.
 
 use crate::Test;
-use reference::certificate::LOST_LENGTH;
+use reference::certificate::{listed_position, listed_rounds, LOST_LENGTH};
 use reference::compare::solve;
-use reference::game::Position;
 use reference::generate::families::{family, FAMILIES};
 use reference::generate::proposals::{proposal, ProposalKind};
 use reference::generate::quota::*;
@@ -13,7 +12,7 @@ use reference::model::{Task, Verdict};
 use reference::random::Random;
 use reference::rules::Rules;
 use reference::tally::Tally;
-use reference::task::read;
+use reference::task::{body_length, read, END, HISTORY, PAIR};
 use std::collections::BTreeSet;
 
 pub const TESTS: &[Test] = &[
@@ -31,6 +30,7 @@ pub const TESTS: &[Test] = &[
         marked_later(Rules::ONE_WAY)
     }),
     ("generator: sweeps have every proposal once", sweeps),
+    ("generator: history records are damaged in every way", damaged_histories),
     ("generator: families are valid", valid_families),
     ("generator: families of a stated size", stated_sizes),
 ];
@@ -75,7 +75,7 @@ fn valid_items() {
 
 /// Counts by kind and by what the checker says.
 fn proposed_certificates(rules: Rules) -> Tally {
-    let tally = measure_proposals(rules, 8, 3000);
+    let tally = measure_proposals(rules, 8, 2000);
     let count =
         |kind: ProposalKind, word: &str| tally.get(&format!("proposal:{}:{word}", kind.name()));
     for &kind in ProposalKind::drawn(rules) {
@@ -87,7 +87,7 @@ fn proposed_certificates(rules: Rules) -> Tally {
         }
     }
     use ProposalKind::*;
-    for always_ill_formed in [Reordered, TwoKinds] {
+    for always_ill_formed in [Reordered, TwoKinds, IllegalSize] {
         assert_eq!(
             count(always_ill_formed, "accepted") + count(always_ill_formed, "refused-14"),
             0
@@ -96,9 +96,12 @@ fn proposed_certificates(rules: Rules) -> Tally {
     for never_right in [Empty, OtherVerdict] {
         assert_eq!(count(never_right, "accepted") + count(never_right, "refused-13"), 0);
     }
-    for often_wrong in [ByteAltered, Cut, WrongAttack, RecordMissing] {
+    for often_wrong in [ByteAltered, Cut, WrongAttack, RecordMissing, SizeAltered, SizeTwins] {
         assert!(count(often_wrong, "refused-14") >= 50, "{}", often_wrong.name());
     }
+    // Twins have legal sizes and stand in order; some are not needed.
+    assert!(count(SizeTwins, "refused-13") == 0 && count(SizeTwins, "accepted") >= 200);
+    assert!(count(SizeAltered, "refused-13") >= 200);
     tally
 }
 
@@ -116,8 +119,7 @@ fn one_way_certificates() {
 /// rounds above 0.
 fn lists_marks_by_attack(rules: Rules, task: &Task, certificate: &[u8]) -> bool {
     certificate.chunks(LOST_LENGTH).any(|record| {
-        let position = Position::from_bytes(&record[1..9]);
-        position.is_lost_at_once(rules, task) && record[12..] != [0; 4]
+        listed_position(record).is_lost_at_once(rules, task) && listed_rounds(record) != 0
     })
 }
 
@@ -162,6 +164,65 @@ fn stated_sizes() {
     let solution = solved("rings-fresh", &[5, 4, 2]);
     assert_eq!((solution.verdict, solution.rounds), (Verdict::Differ, 7));
     assert!(solution.entries.len() > 100);
+}
+
+/// The records of a byte string, the last one as far as it goes; up to a kind
+/// that does not exist.
+fn split_records(mut bytes: &[u8]) -> Vec<&[u8]> {
+    let mut list = Vec::new();
+    while let Some(length) = bytes.first().and_then(|&kind| body_length(kind)) {
+        let (record, rest) = bytes.split_at((1 + length).min(bytes.len()));
+        list.push(record);
+        bytes = rest;
+    }
+    list
+}
+
+/// What is wrong with the history records of a byte string, in words.
+fn history_faults(bytes: &[u8]) -> Vec<String> {
+    let list = split_records(bytes);
+    let kinds: Vec<u8> = list.iter().map(|record| record[0]).collect();
+    let Some(place) = kinds.iter().position(|&kind| kind == HISTORY) else {
+        return Vec::new();
+    };
+    let refusal = read(bytes).err().map_or(0, |r| r.0);
+    let end = kinds.iter().position(|&kind| kind == END);
+    let mut found = Vec::new();
+    match list[place].get(1) {
+        None => found.push(format!("cut, {refusal}")),
+        Some(14..) => found.push(format!("above 13, {refusal}")),
+        Some(..=12) if refusal == 15 => found.push("below the held numbers".to_string()),
+        _ => {}
+    }
+    if kinds[place + 1..].contains(&HISTORY) {
+        found.push(format!("twice, {refusal}"));
+    }
+    if kinds[place + 1..].contains(&PAIR) {
+        found.push(format!("before a pair, {refusal}"));
+    }
+    if end.is_some_and(|end| end < place) {
+        found.push(format!("after the end, {refusal}"));
+    }
+    found
+}
+
+fn damaged_histories() {
+    let mut seen = Tally::default();
+    for index in 0..4000 {
+        let bytes = item_of_kind(21, index, ItemKind::Damaged).bytes;
+        history_faults(&bytes).into_iter().for_each(|fault| seen.add(fault));
+    }
+    print!("{}", seen.table());
+    for fault in [
+        "cut, 2",
+        "above 13, 15",
+        "below the held numbers",
+        "twice, 3",
+        "before a pair, 3",
+        "after the end, 3",
+    ] {
+        assert!(seen.get(fault) >= 20, "{fault}");
+    }
 }
 
 fn valid_families() {

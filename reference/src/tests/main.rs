@@ -4,6 +4,7 @@
 mod checker;
 mod games;
 mod generator;
+mod history;
 mod marked;
 mod one_way;
 mod reader;
@@ -25,6 +26,7 @@ fn main() {
         one_way::TESTS,
         whole::TESTS,
         games::TESTS,
+        history::TESTS,
         generator::TESTS,
         runner::TESTS,
     ];

@@ -50,28 +50,28 @@ fn exchanged(task: &[u8]) -> Vec<u8> {
 }
 
 fn case_11() {
-    let (answer, table, buffer) = run_by(ONE_WAY, &task_11(), 48, 48);
-    assert_eq!(answer, falls_short(4, 2, 48));
-    let records = "13 00 00 01 00 00 00 00 00 01 00 00 00 00 00 02 \
-                   13 01 01 01 00 00 00 00 00 01 02 00 00 00 00 01 \
-                   13 01 02 01 00 00 00 00 00 01 01 00 00 00 00 01";
+    let (answer, table, buffer) = run_by(ONE_WAY, &task_11(), 52, 51);
+    assert_eq!(answer, falls_short(4, 2, 51));
+    let records = "13 00 00 01 00 00 00 00 00 0d 01 00 00 00 00 00 02 \
+                   13 01 01 01 00 00 00 00 00 0d 01 02 00 00 00 00 01 \
+                   13 01 02 01 00 00 00 00 00 0d 01 01 00 00 00 00 01";
     assert_eq!(buffer, hex(records));
-    let entries = "00 00 01 00 00 00 00 00 00 00 00 02  01 01 01 00 00 00 00 00 00 00 00 01 \
-                   01 02 01 00 00 00 00 00 00 00 00 01  02 03 01 00 00 00 00 00 ff ff ff ff";
+    let entries = "00 00 01 00 00 00 00 00 0d 00 00 00 02  01 01 01 00 00 00 00 00 0d 00 00 00 01 \
+                   01 02 01 00 00 00 00 00 0d 00 00 00 01  02 03 01 00 00 00 00 00 0d ff ff ff ff";
     assert_eq!(table, hex(entries));
 }
 
 fn case_11_exchanged() {
     let task = exchanged(&task_11());
-    let (answer, table, buffer) = run_by(ONE_WAY, &task, 49, 37);
-    assert_eq!(answer, follows(4, 36));
-    let records = "12 00 00 01 00 00 00 00 00  12 01 01 01 00 00 00 00 00 \
-                   12 02 01 01 00 00 00 00 00  12 03 02 01 00 00 00 00 00  a5";
+    let (answer, table, buffer) = run_by(ONE_WAY, &task, 53, 41);
+    assert_eq!(answer, follows(4, 40));
+    let records = "12 00 00 01 00 00 00 00 00 0d  12 01 01 01 00 00 00 00 00 0d \
+                   12 02 01 01 00 00 00 00 00 0d  12 03 02 01 00 00 00 00 00 0d  a5";
     assert_eq!(buffer, hex(records));
-    assert!(table.chunks(12).take(4).all(|entry| entry[8..] == [0xff; 4]));
-    assert_eq!(table[48], 0);
+    assert!(table.chunks(13).take(4).all(|entry| entry[9..] == [0xff; 4]));
+    assert_eq!(table[52], 0);
     // Either way it is DIFFER where both sides attack.
-    assert_eq!(run_by(Rules::TWO_WAY, &task, 48, 1600).0.verdict, 2);
+    assert_eq!(run_by(Rules::TWO_WAY, &task, 52, 1600).0.verdict, 2);
 }
 
 fn idle_task(left_mark: &str, right_mark: &str) -> Vec<u8> {
@@ -81,12 +81,12 @@ fn idle_task(left_mark: &str, right_mark: &str) -> Vec<u8> {
 
 fn end_marks() {
     for (left, right) in [("00", "00"), ("00", "01"), ("01", "01")] {
-        assert_eq!(roomy(&idle_task(left, right)), follows(1, 9), "{left} {right}");
+        assert_eq!(roomy(&idle_task(left, right)), follows(1, 10), "{left} {right}");
     }
-    let (answer, table, buffer) = run_by(ONE_WAY, &idle_task("01", "00"), 12, 16);
-    assert_eq!(answer, falls_short(1, 0, 16));
-    assert_eq!(table, hex("00 00 00 00 00 00 00 00 00 00 00 00"));
-    assert_eq!(buffer, hex("13 00 00 00 00 00 00 00 00 00 00 00 00 00 00 00"));
+    let (answer, table, buffer) = run_by(ONE_WAY, &idle_task("01", "00"), 13, 17);
+    assert_eq!(answer, falls_short(1, 0, 17));
+    assert_eq!(table, hex("00 00 00 00 00 00 00 00 0d 00 00 00 00"));
+    assert_eq!(buffer, hex("13 00 00 00 00 00 00 00 00 0d 00 00 00 00 00 00 00"));
 }
 
 fn marked_cases() {
@@ -94,13 +94,13 @@ fn marked_cases() {
     let loops = known_model(1, &[[0, 0, 0]]);
     let outside = hex("01 01 01 00  02 00 00 00  03 00 00 00 01 00");
     for (task, wanted) in [
-        (task_of(model_p(), model_p(), &[]), follows(2, 18)),
-        (task_of(model_p(), model_g(), &[]), falls_short(2, 1, 16)),
-        (task_of(model_g(), model_p(), &[]), follows(2, 18)),
-        (task_of(model_p(), two.clone(), &[]), follows(2, 18)),
-        (task_of(two, model_p(), &[]), follows(2, 18)),
-        (task_of(loops.clone(), loops.clone(), &[]), falls_short(1, 1, 16)),
-        (task_of(loops.clone(), loops, &[[1, 1]]), follows(1, 9)),
+        (task_of(model_p(), model_p(), &[]), follows(2, 20)),
+        (task_of(model_p(), model_g(), &[]), falls_short(2, 1, 17)),
+        (task_of(model_g(), model_p(), &[]), follows(2, 20)),
+        (task_of(model_p(), two.clone(), &[]), follows(2, 20)),
+        (task_of(two, model_p(), &[]), follows(2, 20)),
+        (task_of(loops.clone(), loops.clone(), &[]), falls_short(1, 1, 17)),
+        (task_of(loops.clone(), loops, &[[1, 1]]), follows(1, 10)),
         (Vec::new(), refused(2)),
         (task_of(outside.clone(), outside, &[]), refused(7)),
     ] {
@@ -110,16 +110,16 @@ fn marked_cases() {
 
 fn marked_sizes() {
     let task = task_of(model_p(), model_p(), &[]);
-    for (table_size, buffer_size, refusal) in [(23, 18, 11), (24, 17, 12), (23, 17, 11)] {
+    for (table_size, buffer_size, refusal) in [(25, 20, 11), (26, 19, 12), (25, 19, 11)] {
         let (answer, table, buffer) = run_by(ONE_WAY, &task, table_size, buffer_size);
         assert_eq!(answer, refused(refusal));
         assert_eq!((table, buffer), (vec![0; table_size], vec![0xa5; buffer_size]));
     }
-    let (mut table, mut buffer) = (vec![0xa5; 24], vec![0xa5; 18]);
-    assert_eq!(compare_one_way(&task, &mut table, &mut buffer), follows(2, 18));
-    let (answer, table, buffer) = run_by(ONE_WAY, &[], 24, 18);
+    let (mut table, mut buffer) = (vec![0xa5; 26], vec![0xa5; 20]);
+    assert_eq!(compare_one_way(&task, &mut table, &mut buffer), follows(2, 20));
+    let (answer, table, buffer) = run_by(ONE_WAY, &[], 26, 20);
     assert_eq!(answer, refused(2));
-    assert_eq!((table, buffer), (vec![0xa5; 24], vec![0xa5; 18]));
+    assert_eq!((table, buffer), (vec![0xa5; 26], vec![0xa5; 20]));
 }
 
 /// Register 1 held and paired; the right reader takes tag 1 besides tag 0,
@@ -131,8 +131,8 @@ fn richer_right() -> Vec<u8> {
 }
 
 fn more_on_the_right() {
-    assert_eq!(roomy(&richer_right()), follows(1, 9));
-    assert_eq!(roomy(&exchanged(&richer_right())), falls_short(1, 0, 16));
+    assert_eq!(roomy(&richer_right()), follows(1, 10));
+    assert_eq!(roomy(&exchanged(&richer_right())), falls_short(1, 0, 17));
 }
 
 /// The least count up to 6 that is enough, or None.
@@ -157,8 +157,8 @@ fn actual_numbers() {
 fn printed() {
     let p_g = task_of(model_p(), model_g(), &[]);
     let lines = |task: &[u8]| compare_output_by(ONE_WAY, task);
-    assert_eq!(lines(&p_g), "FALLS SHORT 2 1\nLOST 0 0 0 0 0 0 0 0 1 0 7 1\n");
-    let kept = "FOLLOWS 2 0\nKEPT 0 0 0 0 0 0 0 0\nKEPT 1 1 1 0 0 0 0 0\n";
+    assert_eq!(lines(&p_g), "FALLS SHORT 2 1\nLOST 0 0 0 0 0 0 0 0 13 1 0 7 1\n");
+    let kept = "FOLLOWS 2 0\nKEPT 0 0 0 0 0 0 0 0 13\nKEPT 1 1 1 0 0 0 0 0 13\n";
     assert_eq!(lines(&exchanged(&p_g)), kept);
     assert_eq!(lines(&[]), "REFUSED 2\n");
     assert_eq!(lines(&[0; 4097]), "TOO LONG\n");
@@ -168,9 +168,9 @@ fn expect(task: &[u8], certificate: &[&str], wanted: CheckAnswer) {
     expect_by(ONE_WAY, task, certificate, wanted);
 }
 
-const START: &str = "12 00 00 00 00 00 00 00 00 ";
-const AFTER: &str = "12 01 01 01 00 00 00 00 00 ";
-const LOST: &str = "13 00 00 00 00 00 00 00 00 ";
+const START: &str = "12 00 00 00 00 00 00 00 00 0d ";
+const AFTER: &str = "12 01 01 01 00 00 00 00 00 0d ";
+const LOST: &str = "13 00 00 00 00 00 00 00 00 0d ";
 
 fn sets_and_attacks() {
     // G has no attack that P cannot reply to; P has one.

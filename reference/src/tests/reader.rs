@@ -1,6 +1,6 @@
-//! Refusals 1 to 10, by hand.
+//! Refusals 1 to 10 and 15, by hand.
 
-use crate::marked::hex;
+use crate::marked::{hex, stating, task_11};
 use crate::Test;
 use reference::model::*;
 use reference::task::{read, record, write, EDGE, END, HEADER, STATE};
@@ -33,17 +33,19 @@ fn by_hand() {
     headers_and_states();
     edges();
     pairs();
+    history_places();
+    history_sizes();
     after_the_end();
 }
 
 fn kinds_and_lengths() {
     expect(&[""], 2);
-    for unknown in ["00", "05", "0e", "10", "11", "ff", "00 01 02 03"] {
+    for unknown in ["00", "06", "0e", "10", "11", "ff", "00 01 02 03"] {
         expect(&[unknown], 1);
         expect(&[A, unknown], 1);
         expect(&[A, A, unknown], 1);
     }
-    for cut in ["01", "01 01", "01 01 01", "02 00 00", "03 00 00 00 00", "04 01"] {
+    for cut in ["01", "01 01", "01 01 01", "02 00 00", "03 00 00 00 00", "04 01", "05"] {
         // Cut and, but for the header, misplaced: the lower number counts.
         expect(&[cut], 2);
         expect(&[A, A, cut], 2);
@@ -56,11 +58,11 @@ fn kinds_and_lengths() {
 }
 
 fn places() {
-    for misplaced in ["0f", "02 00 00 00", "03 00 00 00 01 00", "04 01 01"] {
+    for misplaced in ["0f", "02 00 00 00", "03 00 00 00 01 00", "04 01 01", "05 0d"] {
         expect(&[misplaced], 3);
     }
     // One of two states is still missing.
-    for misplaced in ["0f", "01 01 01 00", "03 00 00 00 01 00", "04 01 01"] {
+    for misplaced in ["0f", "01 01 01 00", "03 00 00 00 01 00", "04 01 01", "05 0d"] {
         expect(&["01 01 02 00", "02 00 01 00", misplaced], 3);
     }
     // End, or pairs, before the right model is complete.
@@ -153,7 +155,68 @@ fn pairs() {
     expect(&[B, other_start, "04 01 02"], 10);
 }
 
+fn history_places() {
+    // Before the right model is complete.
+    expect(&[A, "05 0d"], 3);
+    expect(&[A, "01 01 01 00", "05 0d"], 3);
+    // After edges and pairs, or with none of them.
+    expect(&[A, A, "05 0d", "0f"], 0);
+    expect(&[A, A, "03 00 00 00 01 00", "05 0d", "0f"], 0);
+    expect(&[A, A, "04 01 01", "05 0d", "0f"], 0);
+    // Only an end may follow.
+    for second in ["05 0d", "05 0e", "04 01 01", "03 00 00 00 01 00", "02 01 00 00", "01 01 01 00"]
+    {
+        expect(&[A, A, "05 0d", second], 3);
+        expect(&[A, A, "05 0d", second, "0f"], 3);
+    }
+    expect(&[A, A, "05 0d", "05"], 2);
+    expect(&[A, A, "05 0d", "06"], 1);
+    // It is no end.
+    expect(&[A, A, "05 0d"], 2);
+    // Misplaced or cut, with a wrong size or without one: 2, then 3, then 15.
+    expect(&[A, "05 0e"], 3);
+    expect(&["05 ff"], 3);
+    expect(&["05"], 2);
+    expect(&[A, A, "05"], 2);
+    // Records are checked in file order.
+    expect(&[A, A, "05 0e", "04 01 01"], 15);
+    expect(&[A, A, "04 01 02", "05 0e"], 10);
+    expect(&[A, A, "05 0e", "ff"], 15);
+}
+
+fn history_sizes() {
+    let none = "01 00 01 00  02 00 00 00 ";
+    for (models, pairs, held) in [
+        ([none, none], "", 0),
+        ([A, none], "", 1),
+        ([none, A], "", 1),
+        ([A, A], "", 2),
+        ([A, A], "04 01 01 ", 1),
+        ([B, A], "", 3),
+        ([A, B], "04 01 02 ", 2),
+        ([B, B], "04 01 01 04 02 02 ", 2),
+    ] {
+        for size in 0..=255 {
+            let wanted = if (held..=13).contains(&size) { 0 } else { 15 };
+            expect(&[models[0], models[1], pairs, &format!("05 {size:02x} 0f")], wanted);
+        }
+    }
+    // Six registers a side, none shared: 12 is the least.
+    let six = "01 06 01 00  02 00 3f 00 ";
+    for (size, wanted) in [("0b", 15), ("0c", 0), ("0d", 0), ("0e", 15)] {
+        expect(&[six, six, "05", size, "0f"], wanted);
+    }
+    // What other states hold does not count: state 0 of B holds two.
+    let other_start = "01 02 02 01  02 00 03 00  02 01 01 00 ";
+    expect(&[other_start, other_start, "05 02 0f"], 0);
+    expect(&[other_start, other_start, "05 01 0f"], 15);
+}
+
 fn after_the_end() {
+    expect(&[A, A, "0f", "05"], 2);
+    expect(&[A, A, "0f", "05 0d"], 3);
+    expect(&[A, A, "0f", "05 0e"], 3);
+    expect(&[A, A, "05 0d", "0f", "05 0d"], 3);
     expect(&[A, A, "0f", "00"], 1);
     expect(&[A, A, "0f", "01"], 2);
     expect(&[A, A, "0f", "04 01"], 2);
@@ -196,10 +259,11 @@ fn right_model() {
 }
 
 fn every_cut() {
-    let task = crate::marked::task_11();
-    assert_eq!(refusal(&task), 0);
-    for length in 0..task.len() {
-        assert_eq!(refusal(&task[..length]), 2, "cut to {length}");
+    for task in [task_11(), stating(task_11(), 5)] {
+        assert_eq!(refusal(&task), 0);
+        for length in 0..task.len() {
+            assert_eq!(refusal(&task[..length]), 2, "cut to {length}");
+        }
     }
 }
 
@@ -212,4 +276,13 @@ fn read_back() {
     assert_eq!(task.right.edges, vec![edge]);
     assert_eq!(task.pairs, vec![(1, 2)]);
     assert_eq!(write(&task), bytes);
+    assert_eq!((task.history_record, task.history()), (None, 13));
+    // A record is written again exactly if it stood there.
+    for size in [3, 12, 13] {
+        let stated = stating(bytes.clone(), size);
+        let task = read(&stated).expect("a valid task");
+        assert_eq!((task.history_record, task.history()), (Some(size), size));
+        assert_eq!(write(&task), stated);
+        assert_eq!(task.exchanged().history_record, Some(size));
+    }
 }

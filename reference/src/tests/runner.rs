@@ -15,6 +15,7 @@ pub const TESTS: &[Test] = &[
     ("runner: one kind of proposed certificates", one_proposal),
     ("runner: an answer by the other game is reported", other_game),
     ("runner: a given task", given_task),
+    ("generator: a family with a stated history", stated_family),
     ("runner: every cut and every byte of a certificate", swept_certificate),
     ("runner: each altered answer is reported", faults),
     ("runner: a saved request can be asked again", saved_request),
@@ -44,9 +45,10 @@ fn runner(arguments: &[&str], command: &[&Path]) -> (Option<i32>, String) {
     (output.status.code(), String::from_utf8_lossy(&output.stdout).into_owned())
 }
 
-/// 3,000 cases, with these counts and each of the refusals 1 to 10.
+/// 3,000 cases, with these counts and each of the refusals 1 to 10 and 15.
 fn assert_same(operation: &str, counts: &[&str]) {
-    let refusals: Vec<String> = (1..=10).map(|n| format!("refusal:{n}:10")).collect();
+    let read = (1..=10).chain([15]);
+    let refusals: Vec<String> = read.map(|n| format!("refusal:{n}:10")).collect();
     let mut arguments = vec![operation, "--seed", "11", "--count", "3000"];
     let required = refusals.iter().map(|s| s.as_str()).chain(counts.iter().copied());
     for key in required {
@@ -132,32 +134,82 @@ fn other_game() {
     assert_ne!(Response::from_payload(&two), Response::from_payload(&one));
 }
 
+/// What the generator's program says to `family`, and its exit status.
+fn family(arguments: &[&str]) -> (Option<i32>, Vec<u8>) {
+    let mut program = Command::new(built("reference-generate"));
+    let output = program.arg("family").args(arguments).output().expect("the generator runs");
+    (output.status.code(), output.stdout)
+}
+
 /// The file name of a family's task.
-fn family_file(name: &str, sizes: &[usize]) -> String {
-    let task = reference::generate::families::family(name, sizes).expect("a family");
-    let file = built(&format!("{name}.task"));
-    std::fs::write(&file, reference::task::write(&task)).expect("a file");
+fn family_file(arguments: &[&str]) -> String {
+    let (status, task) = family(arguments);
+    assert_eq!(status, Some(0), "{arguments:?}");
+    let file = built(&format!("{}.task", arguments.join("-")));
+    std::fs::write(&file, task).expect("a file");
     file.to_string_lossy().into_owned()
 }
 
+/// Each side holds one number at the start, the same one, so 1 is the least.
+fn stated_family() {
+    let (status, plain) = family(&["chain", "5"]);
+    assert_eq!(status, Some(0));
+    for size in ["1", "2", "12", "13"] {
+        let (status, stated) = family(&["chain", "5", "--history", size]);
+        assert_eq!(status, Some(0));
+        let (models, end) = stated.split_at(plain.len() - 1);
+        assert_eq!(models, &plain[..plain.len() - 1]);
+        assert_eq!(end, [5, size.parse().expect("a size"), 15]);
+    }
+    for size in ["0", "14", "256", "many"] {
+        assert_eq!(family(&["chain", "5", "--history", size]), (Some(2), Vec::new()), "{size}");
+    }
+}
+
 fn given_task() {
-    let name = family_file("dearest-equal", &[4]);
+    let name = family_file(&["dearest-equal", "4"]);
     let arguments =
         ["compare", "--count", "40", "--task", &name, "--require", "positions:100-999:40"];
     let (status, text) = runner(&arguments, &[&built("reference-adapter")]);
     assert_eq!(status, Some(0), "{text}");
+    let name = family_file(&["dearest-equal", "3", "--history", "6"]);
+    let arguments = ["compare", "--count", "40", "--task", &name];
+    let (status, text) = runner(
+        &[&arguments[..], &["--require", "history:held:EQUAL:40"]].concat(),
+        &[&built("reference-adapter")],
+    );
+    assert_eq!(status, Some(0), "{text}");
+    // All positions fit the program's table, and the certificate is too long.
+    let name = family_file(&["listed", "14", "6", "3"]);
+    let arguments = ["program", "--count", "1", "--task", &name, "--require", "refusal:12:1"];
+    let (status, text) = runner(&arguments, &[&built("reference-compare")]);
+    assert_eq!(status, Some(0), "{text}");
 }
 
 fn swept_certificate() {
-    // 3 rounds, so 4 records of 16 bytes.
-    let name = family_file("chain", &[4]);
-    for (operation, sweep, cases, required) in [
-        ("check", "cuts", 65, ["refusal:0:1", "refusal:14:4", "refusal:13:60"]),
-        ("check", "bytes", 64 * 255, ["refusal:0:200", "refusal:14:4000", "refusal:13:2000"]),
-        // FOLLOWS, so 4 records of 9 bytes.
-        ("check-one-way", "cuts", 37, ["refusal:0:1", "refusal:14:4", "refusal:13:32"]),
+    // 3 rounds, so 4 records of 17 bytes.
+    let name = family_file(&["chain", "4"]);
+    let stated = family_file(&["chain", "4", "--history", "3"]);
+    for (operation, name, sweep, cases, required) in [
+        ("check", &name, "cuts", 69, ["refusal:0:1", "refusal:14:4", "refusal:13:64"]),
+        (
+            "check",
+            &name,
+            "bytes",
+            68 * 255,
+            ["refusal:0:200", "refusal:14:4000", "refusal:13:2000"],
+        ),
+        (
+            "check",
+            &stated,
+            "bytes",
+            68 * 255,
+            ["refusal:0:200", "refusal:14:4000", "refusal:13:2000"],
+        ),
+        // FOLLOWS, so 4 records of 10 bytes.
+        ("check-one-way", &name, "cuts", 41, ["refusal:0:1", "refusal:14:4", "refusal:13:36"]),
     ] {
-        let mut arguments = vec![operation, "--task", &name, "--sweep", sweep];
+        let mut arguments = vec![operation, "--task", name, "--sweep", sweep];
         required.iter().for_each(|key| arguments.extend(["--require", key]));
         let (status, text) = runner(&arguments, &[&built("reference-adapter")]);
         assert_eq!(status, Some(0), "{text}");

@@ -7,6 +7,7 @@ use reference::check::check_by;
 use reference::compare::*;
 use reference::game::*;
 use reference::generate::families::family;
+use reference::generate::histories::stating;
 use reference::generate::*;
 use reference::model::*;
 use reference::numbers::{opening, Game, Number, Setting};
@@ -16,9 +17,9 @@ use reference::task::{read, write};
 use std::collections::{BTreeMap, BTreeSet};
 
 pub const TESTS: &[Test] = &[
-    ("actual numbers: least count is the rounds", || actual_numbers(Rules::TWO_WAY, 12_000)),
+    ("actual numbers: least count is the rounds", || actual_numbers(Rules::TWO_WAY, 14_000)),
     ("actual numbers: least count is the rounds, one-way", || {
-        actual_numbers(Rules::ONE_WAY, 20_000)
+        actual_numbers(Rules::ONE_WAY, 24_000)
     }),
     ("actual numbers: one never-seen number is enough", two_new_numbers),
     ("actual numbers: the history matters", short_history),
@@ -62,11 +63,13 @@ pub fn is_small(task: &Task) -> bool {
     })
 }
 
-/// An opening with numbers drawn at random and a history of 13 to 16.
+/// An opening with numbers drawn at random and a history of the stated size,
+/// or of 13 to 16 where 13 is stated.
 pub fn random_opening(random: &mut Random, task: &Task) -> Setting {
     let mut numbers: Vec<Number> = (0..50).collect();
     random.shuffle(&mut numbers);
-    opening(task, &numbers, random.between(13, 16))
+    let beyond = if task.history() == MAX_HISTORY { random.below(4) } else { 0 };
+    opening(task, &numbers, task.history() as usize + beyond)
 }
 
 /// "never", or the rounds, or "more" than brute force looks at.
@@ -88,24 +91,25 @@ pub fn assert_least_count(task: &Task, setting: &Setting, solution: &Solution) {
 }
 
 fn actual_numbers(rules: Rules, items: u64) {
-    let mut seen: BTreeMap<String, usize> = BTreeMap::new();
+    let mut seen: BTreeMap<(String, &str), usize> = BTreeMap::new();
     let mut random = Random::new(71);
-    let mut total = 0;
     for task in tasks(70, items).filter(is_small) {
         let solution = solve(rules, &task);
-        let class = seen.entry(class_of(&solution)).or_insert(0);
-        if *class == 400 {
+        let history = if task.history() == MAX_HISTORY { "13" } else { "below 13" };
+        let class = seen.entry((class_of(&solution), history)).or_insert(0);
+        if *class == 250 {
             continue;
         }
         *class += 1;
-        total += 1;
         let setting = random_opening(&mut random, &task);
         assert_least_count(&task, &setting, &solution);
     }
     println!("       tasks by rounds: {seen:?}");
-    assert!(total >= 500, "{total} tasks");
     for class in ["0", "1", "2", "3", "4", "never"] {
-        assert!(seen.get(class).is_some_and(|&n| n >= 50), "few of class {class}");
+        for history in ["13", "below 13"] {
+            let count = seen.get(&(class.to_string(), history)).copied().unwrap_or(0);
+            assert!(count >= 25, "{count} of class {class}, history {history}");
+        }
     }
 }
 
@@ -125,9 +129,9 @@ fn two_new_numbers() {
 
 /// Six registers, all shared, a locally fresh edge against a globally fresh
 /// one. If only the six numbers were seen, there is no seen number that
-/// neither holds, so the globally fresh edge takes all that the other takes.
-/// This shows that the brute force looks at the history. The locally fresh
-/// edge is the left one's, so the one-way game is like the other.
+/// neither holds, so the globally fresh edge takes all that the other takes,
+/// and only in the next round is there a number that was let go. The locally
+/// fresh edge is the left one's, so the one-way game is like the other.
 fn short_history() {
     let state = State { set: RegisterSet(0x3f), end_mark: 0 };
     let model = |kind| {
@@ -135,15 +139,15 @@ fn short_history() {
         Model { registers: 6, start: 0, states: vec![state], edges: vec![edge] }
     };
     let pairs = (1..=6).map(|r| (r, r)).collect();
-    let task = Task { left: model(Kind::LocallyFresh), right: model(Kind::GloballyFresh), pairs };
+    let task = Task::new(model(Kind::LocallyFresh), model(Kind::GloballyFresh), pairs);
     let numbers: Vec<Number> = (0..40).collect();
     for rules in Rules::ALL {
-        let start = |history| opening(&task, &numbers, history);
-        let force = |history| Game::new(rules, &task, 1).forced_within(&start(history), 1);
-        assert!(!force(6));
-        assert!(force(7));
-        assert!(force(13));
-        assert_eq!((solve(rules, &task).verdict, solve(rules, &task).rounds), (rules.lost, 1));
+        for (size, rounds) in [(6, 2), (7, 1), (12, 1), (13, 1)] {
+            let task = stating(task.clone(), size).expect("a size that fits");
+            let solution = solve(rules, &task);
+            assert_eq!((solution.verdict, solution.rounds), (rules.lost, rounds));
+            assert_least_count(&task, &opening(&task, &numbers, size as usize), &solution);
+        }
     }
 }
 
@@ -204,10 +208,10 @@ fn check_attack_list(task: &Task, solution: &Solution) {
     let settled = Settled { rules, task, rounds_of: solution.entries.iter().copied().collect() };
     let mut led_to = BTreeSet::from([Position::start(task)]);
     let mut listed = BTreeSet::new();
-    for record in solution.certificate.chunks(16) {
-        let position = Position::from_bytes(&record[1..9]);
-        let fields = [record[9], record[10], record[11]];
-        let rounds = u32::from_be_bytes([record[12], record[13], record[14], record[15]]);
+    for record in solution.certificate.chunks(17) {
+        let position = Position::from_bytes(&record[1..10]);
+        let fields = [record[10], record[11], record[12]];
+        let rounds = u32::from_be_bytes([record[13], record[14], record[15], record[16]]);
         assert_eq!((record[0], rounds), (rules.lost.kind(), settled.rounds_of[&position]));
         listed.insert(position);
         if rounds == 0 {
@@ -240,12 +244,12 @@ fn lent_sizes(rules: Rules) {
         if entries > 12 {
             continue;
         }
-        for table_size in 0..entries * 12 + 14 {
+        for table_size in 0..entries * 13 + 15 {
             let buffer_size = [needed, needed - 1, needed + 3, 0][random.below(4)];
             check_sizes(&mut random, &task, &solution, table_size, buffer_size);
         }
         for buffer_size in 0..needed + 5 {
-            check_sizes(&mut random, &task, &solution, entries * 12 + 5, buffer_size);
+            check_sizes(&mut random, &task, &solution, entries * 13 + 5, buffer_size);
         }
     }
 }
@@ -256,7 +260,7 @@ fn check_sizes(random: &mut Random, task: &Task, solution: &Solution, table: usi
     let answer = compare_by(solution.rules, &write(task), &mut table, &mut buffer);
     let needed = solution.certificate.len();
     let refusal = match () {
-        _ if table.len() < 12 * solution.entries.len() => 11,
+        _ if table.len() < 13 * solution.entries.len() => 11,
         _ if buffer.len() < needed => 12,
         _ => 0,
     };
@@ -270,9 +274,9 @@ fn check_sizes(random: &mut Random, task: &Task, solution: &Solution, table: usi
     assert_eq!(answer.certificate_length as usize, needed);
     assert_eq!(buffer[..needed], solution.certificate);
     assert_eq!(buffer[needed..], before[needed..]);
-    let used = 12 * answer.positions as usize;
+    let used = 13 * answer.positions as usize;
     assert!(table[used..].iter().all(|&b| b == 0));
-    assert!(table[..used].chunks(12).is_sorted_by(|a, b| a[..8] < b[..8]));
+    assert!(table[..used].chunks(13).is_sorted_by(|a, b| a[..9] < b[..9]));
 }
 
 /// Rules with one mistake: 0, locally fresh attacks with new numbers only; 1,

@@ -41,13 +41,16 @@ returns-3 c =
 
 returns-4 : tie.Need-returns-4
 returns-4 c =
-    let set = c .before in
+    let roomy = c .before in
+    let set = roomy .before in
     let away = set .before .before in
     let read = away .before .before .before in
     let edge = read .before in
     let (attacks, exists) = there (edge .before) in
     let here = rw (read .state .ensures, edge .edge-at .ensures) at (away .before .if3 .left) in
-    let told = rw (set .set-of .ensures, set .before .state2 .ensures, away .other .ensures) at (c .has-case .ensures) in
+    let told =
+    rw (roomy .has-room .ensures, set .set-of .ensures, set .before .state2 .ensures, away .other .ensures)
+    at (c .has-case .ensures) in
     rw (attack-in, attacks, exists, eq-eqb _ _ here) (rw (edge .edge-at .ensures) at told)
 
 pub is-attack-spec : {M : Type 1} → statement M
@@ -61,6 +64,7 @@ is-attack-spec =
     (λ c κs. search needs)
     (λ c κs. search needs)
     returns-3
+    (λ c κs. search needs)
     (λ c κs. search needs)
     (λ c κs. search needs)
     (λ c κs. search needs)

@@ -5,6 +5,7 @@ use native.Mathlib.Omega.{arith}
 use lib.ListN.{length}
 use denote.Ref.{now}
 use borrow.Author.Needs.{needs}
+use Rattle.fra_laws.proofs.LegalPositions.{mostPositions}
 use Rattle.listing.specs.Widths.{entryWidth}
 use Rattle.game_index.specs.Reading.{taskIn}
 use Rattle.comparer.proofs.Outcomes.{ranked-room, ranked-start, too-long, judged}
@@ -14,7 +15,7 @@ use Rattle.comparer.proofs.judge.Tie as tie
 -- there is room for the entries, and they are not many
 room : (c : tie.After-certify) → let counted = c .before .before .before in
     let start = counted .before .before .before .before .before in
-    (start .args .n ≤ 3411712) × (start .args .n * entryWidth ≤ length (now (start .args .table)))
+    (start .args .n ≤ mostPositions) × (start .args .n * entryWidth ≤ length (now (start .args .table)))
 room c =
     let counted = c .before .before .before in
     let start = counted .before .before .before .before .before in

@@ -1,4 +1,4 @@
--- `game_indexing::of` meets its contract: one side, the other, the start and the rules. Assumes nothing.
+-- `game_indexing::of` meets its contract: one side, the other, the start and its history, the game. Assumes nothing.
 use Prim.Native.Nat.{ℕ}
 use mathlib.Core.Path.{_≡_}
 use native.Mathlib.Omega.{arith}
@@ -10,6 +10,7 @@ use Rattle.fra.specs.declared.Side.{Side}
 use Rattle.fra.specs.declared.Side.the-variants.{Left, Right}
 use Rattle.game_index.specs.Layout.{size}
 use Rattle.game_index.specs.Writing.{Sized}
+use Rattle.game_indexing.proofs.Flags.{test-byte}
 use Rattle.game_indexing.proofs.IndexParts.{SizedTask, of-written}
 use Rattle.game_indexing.proofs.of.Statement.{statement}
 use Rattle.game_indexing.proofs.of.Tie as tie
@@ -26,7 +27,7 @@ six c = search needs
 
 returns : tie.Need-returns
 returns c =
-    let started = c .before in
+    let started = c .before .before in
     let right = started .before .before in
     let left = right .before .before in
     let start = left .before .before in
@@ -38,7 +39,13 @@ returns c =
       sized = sides;
       partners = six start;
       written =
-          rw (c .number .ensures, started .put-start .ensures, right .put-side2 .ensures .written, left .put-side .ensures .written)
+          rw (
+            c .number .ensures,
+            test-byte (t .«history_stated»),
+            started .put-start .ensures,
+            right .put-side2 .ensures .written,
+            left .put-side .ensures .written,
+          )
           (of-written t _ sized (replicate size 0) (length-replicate {A = ℕ} size 0));
     }
   where
@@ -49,4 +56,12 @@ returns c =
 pub of-spec : {M : Type 1} → statement M
 of-spec =
     tie.close
-    (tie.spec put-side-requires put-side-requires-2 (λ c κs. search needs) (λ c κs. search needs) (λ c. search needs) returns)
+    (tie.spec
+    put-side-requires
+    put-side-requires-2
+    (λ c κs. search needs)
+    (λ c. search needs)
+    (λ c. search needs)
+    (λ c κs. search needs)
+    (λ c. search needs)
+    returns)

@@ -1,20 +1,14 @@
 -- `game_indexing::put_edge` meets its contract: four bytes, and four behind them. Assumes nothing.
 use Prim.Native.Nat.{_+_}
-use mathlib.Core.Path.{_≡_, refl, _∙_}
-use mathlib.Core.Bool.{Bool, true, false}
+use mathlib.Core.Path.{refl, _∙_}
 use mathlib.Core.List.{[], _∷_}
-use mir.Val.{boolByte}
 use borrow.Author.Needs.{needs}
 use Rattle.fra.specs.Model.{edgeBytes, kindNumber, registerOf}
 use Rattle.game_index.specs.Writing.{flag}
 use Rattle.game_indexing.proofs.Appended.{sets-behind}
+use Rattle.game_indexing.proofs.Flags.{test-byte}
 use Rattle.game_indexing.proofs.put_edge.Statement.{statement}
 use Rattle.game_indexing.proofs.put_edge.Tie as tie
-
--- the byte of a test is its flag
-test-byte : (b : Bool) → boolByte b ≡ flag b
-test-byte true = refl
-test-byte false = refl
 
 returns : tie.Need-returns
 unfolding edgeBytes

@@ -1,5 +1,5 @@
--- `game_indexing::put_start` meets its contract: four bytes, and four behind them. Assumes nothing.
-use mathlib.Core.Path.{_≡_, refl, _∙_}
+-- `game_indexing::put_start` meets its contract: four bytes, four behind them, and the last one. Assumes nothing.
+use mathlib.Core.Path.{_≡_, refl}
 use lib.ListN.{length, getD}
 use borrow.Author.Needs.{needs}
 use Rattle.fra.specs.Position.{bytes}
@@ -15,7 +15,7 @@ returns c =
     let p = first .before .before .before .args .p in
     let six : length (p .partners) ≡ 6 = search needs in
     let six-bytes = listed (λ i. getD (p .partners) i 0) 6 (p .partners) 0 six (λ i b. refl) in
-    c .put-four2 .ensures ∙ rw (first .put-four .ensures, ← six-bytes) refl
+    rw (c .put-four2 .ensures, first .put-four .ensures, ← six-bytes) refl
 
 pub put-start-spec : {M : Type 1} → statement M
 put-start-spec =
@@ -30,4 +30,5 @@ put-start-spec =
     (λ c. search needs)
     (λ c. search needs)
     (λ c κs. search needs)
+    (λ c. search needs)
     returns)

@@ -1,13 +1,25 @@
 -- `listing::low` meets its contract: the second word of a position's bytes is made of its last four partners. Assumes nothing.
+use mathlib.Core.Path.{_≡_}
+use native.Mathlib.Omega.{arith}
+use lib.ListN.{length}
 use borrow.Author.Needs.{needs}
-use Rattle.fra.specs.Position.{bytes}
 use Rattle.outcome.specs.Bytes.{wordAt}
+use Rattle.listing.proofs.PositionNumbers.{partner-byte}
 use Rattle.listing.proofs.low.Statement.{statement}
 use Rattle.listing.proofs.low.Tie as tie
 
 returns : tie.Need-returns
-unfolding wordAt bytes
-returns c = c .joined .ensures
+unfolding wordAt
+returns c =
+    let p = c .before .before .args .p in
+    let six : length (p .partners) ≡ 6 = search needs in
+    rw (
+      partner-byte p 2 six (omega arith),
+      partner-byte p 3 six (omega arith),
+      partner-byte p 4 six (omega arith),
+      partner-byte p 5 six (omega arith),
+    )
+    (c .joined .ensures)
 
 pub low-spec : {M : Type 1} → statement M
 low-spec =

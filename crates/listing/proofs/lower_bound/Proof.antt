@@ -1,18 +1,20 @@
 -- `listing::lower_bound` meets its contract. The loop's invariant: the records before `low` have smaller numbers than the sought
 -- one, and those from `high` on have not. The measure is `high - low`. Assumes nothing.
 use Prim.Native.Nat.{ℕ, _+_, _*_, _-_, _/_, _≤_, _<_}
+use mathlib.Core.Path.{sym, _∙_}
 use native.Mathlib.Omega.{arith}
 use lib.ListN.{length}
 use denote.Ref.{now}
 use borrow.Author.Needs.{needs}
-use Rattle.listing.specs.Listing.{numberAt}
+use borrow.Author.Tests.{ltb-true, ltb-false}
+use Rattle.listing.specs.Listing.{whole, numberAt}
 use Rattle.listing.proofs.PositionNumbers.{record-room, numbers-rise}
 use Rattle.listing.proofs.Halving.{Bracket, bracket-start, bracket-up, bracket-down}
 use Rattle.listing.proofs.lower_bound.Statement.{statement}
 use Rattle.listing.proofs.lower_bound.Tie as tie
 
 abbrev Inv-loop : tie.InvT-loop
-Inv-loop list records sought low₀ high₀ low high = Bracket (numberAt records list) (records .count) sought low high
+Inv-loop list records sought low₀ high₀ low high = Bracket (numberAt records list) (records .count) (whole sought) low high
 
 abbrev μ-loop : tie.MeasureT-loop
 μ-loop list records sought low₀ high₀ low high = high - low
@@ -26,7 +28,8 @@ room : (c : tie.In-loop Inv-loop μ-loop) → let a = c .before .before .before 
 room c =
     let at-loop = c .before in
     let at-start = at-loop .before .before in
-    record-room (at-start .args .records) (now (at-start .args .list)) (at-start .pre .fitting) (middle at-loop) (omega (arith, at-loop .loop .inv .within))
+    record-room (at-start .args .records) (now (at-start .args .list)) (at-start .pre .fitting) (middle at-loop)
+    (omega (arith, at-loop .loop .inv .within))
 
 rises : (c : tie.After-shared-slice-known Inv-loop μ-loop) → let a = c .before .args in
     (i j : ℕ) → i < j → j < a .records .count → numberAt (a .records) (now (a .list)) i < numberAt (a .records) (now (a .list)) j
@@ -37,16 +40,16 @@ rises c =
 loop-holds : tie.Need-loop-holds Inv-loop μ-loop
 loop-holds c = bracket-start _ _ _
 
-mul-number-at : tie.Need-mul-number-at Inv-loop μ-loop
-mul-number-at c = search (needs, room (c .before))
+mul-below-at : tie.Need-mul-below-at Inv-loop μ-loop
+mul-below-at c = search (needs, room (c .before))
 
-add-number-at : tie.Need-add-number-at Inv-loop μ-loop
-add-number-at c =
+add-below-at : tie.Need-add-below-at Inv-loop μ-loop
+add-below-at c =
     let at-start = c .before .before .before .before .before in
     search (needs, room (c .before .before), at-start .pre .fitting .position)
 
-number-at-requires : tie.Need-number-at-requires Inv-loop μ-loop
-number-at-requires c κs =
+below-at-requires : tie.Need-below-at-requires Inv-loop μ-loop
+below-at-requires c κs =
     let at-start = c .before .before .before .before .before in
     omega (arith, room (c .before .before), at-start .pre .fitting .position)
 
@@ -55,24 +58,28 @@ loop-again c =
     let at-loop = c .before .before .before .before .before in
     let known = at-loop .before in
     let a = known .before .args in
-    bracket-up (numberAt (a .records) (now (a .list))) (a .records .count) (rises known) (a .sought) (at-loop .loop .low) (at-loop .loop .high)
+    bracket-up (numberAt (a .records) (now (a .list))) (a .records .count) (rises known) (whole (a .sought))
+    (at-loop .loop .low)
+    (at-loop .loop .high)
     (middle at-loop)
     (at-loop .loop .inv)
     (omega arith)
     (omega arith)
-    (rw (c .before .number-at .ensures) at (c .if1 .taken))
+    (ltb-true _ _ (sym (c .before .below-at .ensures) ∙ c .if1 .taken))
 
 loop-again-2 : tie.Need-loop-again-2 Inv-loop μ-loop
 loop-again-2 c =
     let at-loop = c .before .before .before .before .before in
     let known = at-loop .before in
     let a = known .before .args in
-    bracket-down (numberAt (a .records) (now (a .list))) (a .records .count) (rises known) (a .sought) (at-loop .loop .low) (at-loop .loop .high)
+    bracket-down (numberAt (a .records) (now (a .list))) (a .records .count) (rises known) (whole (a .sought))
+    (at-loop .loop .low)
+    (at-loop .loop .high)
     (middle at-loop)
     (at-loop .loop .inv)
     (omega arith)
     (omega arith)
-    (rw (c .before .number-at .ensures) at (c .if1 .left))
+    (ltb-false _ _ (sym (c .before .below-at .ensures) ∙ c .if1 .left))
 
 returns : tie.Need-returns Inv-loop μ-loop
 returns c =
@@ -89,9 +96,9 @@ lower-bound-spec =
     loop-holds
     (λ c. search needs)
     (λ c. search needs)
-    mul-number-at
-    add-number-at
-    number-at-requires
+    mul-below-at
+    add-below-at
+    below-at-requires
     (λ c. search needs)
     (λ c. search needs)
     loop-again

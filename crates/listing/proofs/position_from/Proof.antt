@@ -13,8 +13,8 @@ use Rattle.listing.proofs.position_from.Tie as tie
 returns : tie.Need-returns
 unfolding positionOf count
 returns c =
-    let second = c .before .before .before .before in
-    let a = second .before .before .before .before .args in
+    let partner = c .before .before .before in
+    let a = partner .before .before .before .before .before .before .args in
     let l = drop (a .at) (a .list .now) in
     rw (← (part 6 l 2 (rw length-drop (omega arith)))) (simp (getD-drop, add-zero))
 
@@ -22,6 +22,8 @@ pub position-from-spec : {M : Type 1} → statement M
 position-from-spec =
     tie.close
     (tie.spec
+    (λ c. search needs)
+    (λ c. search needs)
     (λ c. search needs)
     (λ c. search needs)
     (λ c. search needs)

@@ -1,9 +1,6 @@
--- `listing::put_position` meets its contract: a position's bytes are two words. Assumes nothing.
-use Prim.Native.Nat.{ℕ}
-use mathlib.Core.Path.{_≡_}
-use lib.ListN.{length, getD}
-use mir.Syntax.{w8}
-use mir.Val.{Fits}
+-- `listing::put_position` meets its contract: a position's bytes are two words and the history's size. Assumes nothing.
+use mathlib.Core.Path.{_≡_, _∙_}
+use lib.ListN.{length, length-set}
 use denote.Ref.{now}
 use borrow.Author.Needs.{needs}
 use Rattle.fra.specs.Position.{bytes}
@@ -16,11 +13,13 @@ six : (c : tie.Start) → length (c .args .p .partners) ≡ 6
 six c = search needs
 
 numbers : (c : tie.Start) → Bytes (bytes (c .args .p))
-numbers c =
-    let left : Fits w8 (c .args .p .left) = search needs in
-    let right : Fits w8 (c .args .p .right) = search needs in
-    let partner : (i : ℕ) → Fits w8 (getD (c .args .p .partners) i 0) = λ i. search needs in
-    position-numbers (c .args .p) (left .fits) (right .fits) (λ i. partner i .fits)
+numbers c = position-numbers (c .args .p) (search needs) (search needs) (λ i. search needs) (search needs)
+
+same-length : tie.Need-same-length
+same-length c =
+    let second = c .before .before in
+    let first = second .before .before .before .before .before in
+    simp length-set (second .put-word2 .kept .0 ∙ first .put-word .kept .0)
 
 returns : tie.Need-returns
 returns c =
@@ -41,4 +40,6 @@ put-position-spec =
     (λ c κs. search needs)
     (λ c κs. search needs)
     (λ c. search needs)
+    (λ c. search needs)
+    same-length
     returns)

@@ -36,6 +36,12 @@ returns-5 c =
     let a = c .before .before .before .before .args in
     c .step5 .ensures ∙ sym (ap (λ k. step (defined k) (a .p) (a .body .now)) (c .before .enum-told5 .given .1))
 
+returns-6 : tie.Need-returns-6
+unfolding step
+returns-6 c =
+    let a = c .before .before .before .before .args in
+    c .step6 .ensures ∙ sym (ap (λ k. step (defined k) (a .p) (a .body .now)) (c .before .enum-told6 .given .1))
+
 pub step-spec : {M : Type 1} → statement M
 step-spec =
     tie.close
@@ -50,8 +56,11 @@ step-spec =
     (λ c κs. tt)
     (λ c. search needs)
     (λ c κs. tt)
+    (λ c. search needs)
+    (λ c κs. tt)
     returns
     returns-2
     returns-3
     returns-4
-    returns-5)
+    returns-5
+    returns-6)

@@ -21,6 +21,12 @@ rounds-at-requires c κs =
     let start = entries .before .before .before in
     rw (entries .of-table .ensures) (start .pre .0 .fitting, start .pre .1 .1)
 
+add-put-attack : tie.Need-add-put-attack
+add-put-attack c =
+    let headed = c .before .before .before in
+    let entries = headed .before .before .before .before .before .before in
+    omega (arith, entries .before .before .before)
+
 add-put-word : tie.Need-add-put-word
 add-put-word c =
     let attacked = c .before .before .before in
@@ -64,7 +70,7 @@ put-loss-spec =
     (λ c κs. search needs)
     (λ c κs. search needs)
     (λ c κs. search needs)
-    (λ c. search needs)
+    add-put-attack
     (λ c κs. search needs)
     add-put-word
     (λ c κs. search needs)

@@ -1,6 +1,6 @@
 -- `comparer_explore::expand::key_after` meets its contract. The loop's invariant: the key is what the digits from register `i` on
--- continue. No part of a key is more than the key, so all parts are small. The measure is how many registers are left. Assumes
--- nothing.
+-- continue. No part of a key is more than the key, so all parts are small; the history's size is its last digit. The measure is
+-- how many registers are left. Assumes nothing.
 use Prim.Native.Nat.{ℕ, _+_, _*_, _-_, _≤_, _<_}
 use mathlib.Core.Path.{_≡_, refl}
 use native.Mathlib.Omega.{arith}
@@ -9,27 +9,35 @@ use mir.Syntax.{w8}
 use mir.Val.{Fits}
 use borrow.Author.Needs.{needs}
 use Rattle.game_moves.specs.AfterRound.{movedTo}
-use Rattle.table_laws.specs.Keys.{partnerBase, keyOf, keyLimit}
-use Rattle.comparer_explore_laws.proofs.RoundKeys.{partnerAfter, Continues, continues-more, continues-end, continues-small}
+use Rattle.table_laws.specs.Keys.{partnerBase, historyBase, keyOf, keyLimit}
+use Rattle.comparer_explore_laws.proofs.RoundKeys.{partnerAfter, Continues, continues-more, continues-end, after-small, continues-small}
 use Rattle.comparer_explore.proofs.expand.key_after.Statement.{statement}
 use Rattle.comparer_explore.proofs.expand.key_after.Tie as tie
 
 abbrev Inv-loop : tie.InvT-loop
-Inv-loop left right before key₀ i₀ key i = (i ≤ 6) × Continues left right before key i
+Inv-loop size left right before key₀ i₀ key i = (i ≤ 6) × Continues left right before key i
 
 abbrev μ-loop : tie.MeasureT-loop
-μ-loop left right before key₀ i₀ key i = 6 - i
+μ-loop size left right before key₀ i₀ key i = 6 - i
 
 six : (c : tie.Start Inv-loop μ-loop) → length (c .args .p .partners) ≡ 6
 six c = search needs
 
--- a part of the key is small
+-- the key is small
+whole-small : (c : tie.Start Inv-loop μ-loop)
+    → keyOf (movedTo (c .args .p) (c .args .size) (c .args .left) (c .args .right)) < keyLimit
+whole-small c =
+    let a = c .args in
+    let byte : (i : ℕ) → Fits w8 (getD (a .p .partners) i 0) = λ i. search needs in
+    after-small (a .p) (a .size) (a .left) (a .right) (six c) (omega arith) (λ i. byte i .fits) (omega arith)
+
+-- and so is each part of it
 small : (c : tie.Start Inv-loop μ-loop) (x i : ℕ) → Continues (c .args .left) (c .args .right) (c .args .p .partners) x i
     → x < keyLimit
 small c x i e =
     let a = c .args in
     let byte : (i : ℕ) → Fits w8 (getD (a .p .partners) i 0) = λ i. search needs in
-    continues-small (a .p) (a .left) (a .right) x i (six c) (omega arith) (omega arith) (omega arith) (λ i. byte i .fits) e
+    continues-small (a .p) (a .size) (a .left) (a .right) (six c) (omega arith) (λ i. byte i .fits) (omega arith) x i e
 
 -- the key with one digit more
 next : (c : tie.After-rejoined Inv-loop μ-loop)
@@ -66,17 +74,32 @@ add-key-2 c =
 loop-again : tie.Need-loop-again Inv-loop μ-loop
 loop-again c = (omega arith, rw (c .remaining .ensures, c .before .rejoined .ensures) (next (c .before)))
 
-returns : tie.Need-returns Inv-loop μ-loop
+-- after the last register, with the history's size
+whole : (c : tie.After-loop Inv-loop μ-loop)
+    → let at = c .before in
+    let a = at .before .before .before .before .args in
+    at .loop .key * historyBase + a .size ≡ keyOf (movedTo (a .p) (a .size) (a .left) (a .right))
 unfolding keyOf movedTo
-returns c =
+whole c =
     let at = c .before in
     let start = at .before .before .before .before in
     let a = start .args in
-    let (_, same) = at .loop .inv in (
-      continues-end (a .left) (a .right) (a .p .partners) (at .loop .key) (at .loop .i) same
-          (omega (arith, six start, c .loop-test .left)),
-      small start (at .loop .key) (at .loop .i) same,
-    )
+    rw
+    (continues-end (a .left) (a .right) (a .p .partners) (at .loop .key) (at .loop .i) (at .loop .inv .1)
+    (omega (arith, six start, c .loop-test .left)))
+
+end-small : (c : tie.After-loop Inv-loop μ-loop) → let at = c .before in
+    at .loop .key * historyBase + at .before .before .before .before .args .size < keyLimit
+end-small c = rw (whole c) (whole-small (c .before .before .before .before .before))
+
+mul-result : tie.Need-mul-result Inv-loop μ-loop
+mul-result c = let h = end-small c in search needs
+
+add-result : tie.Need-add-result Inv-loop μ-loop
+add-result c = let h = end-small c in search needs
+
+returns : tie.Need-returns Inv-loop μ-loop
+returns c = (whole c, end-small c)
 
 pub key-after-spec : {M : Type 1} → statement M
 key-after-spec =
@@ -101,4 +124,6 @@ key-after-spec =
     (λ c. search needs)
     (λ c. search needs)
     loop-again
+    mul-result
+    add-result
     returns)

@@ -2,6 +2,7 @@
 -- held. Assumes nothing.
 use Prim.Native.Nat.{ℕ, _-_}
 use mathlib.Core.Path.{_∙_}
+use mathlib.Core.Bool.{Bool}
 use mathlib.Core.List.{List}
 use native.Mathlib.Omega.{arith}
 use borrow.Author.Needs.{needs}
@@ -17,19 +18,19 @@ use Rattle.comparer_explore.proofs.expand.visit_edges.Statement.{statem
 use Rattle.comparer_explore.proofs.expand.visit_edges.Tie as tie
 
 -- what is wanted of a right edge
-abbrev wanted : Position → Transition → List ℕ → ℕ → ℕ → Type 0
-wanted p left index k = PairKey p left (transitionOf (modelIn index Right) k)
+abbrev wanted : Bool → Position → Transition → List ℕ → ℕ → ℕ → Type 0
+wanted room p left index k = PairKey room p left (transitionOf (modelIn index Right) k)
 
 abbrev Inv-loop : tie.InvT-loop
-Inv-loop table₀ n p left index end m₀ k₀ table m k = Passed k₀ end (wanted p left index) k n table₀ m table
+Inv-loop table₀ n p room left index end m₀ k₀ table m k = Passed k₀ end (wanted room p left index) k n table₀ m table
 
 abbrev μ-loop : tie.MeasureT-loop
-μ-loop table₀ n p left index end m₀ k₀ table m k = end - k
+μ-loop table₀ n p room left index end m₀ k₀ table m k = end - k
 
 loop-holds : tie.Need-loop-holds Inv-loop μ-loop
 loop-holds c =
     let a = c .before .args in
-    passed-none (a .edges .first) (a .edges .end) (wanted (a .p) (a .left) (a .index .now)) (c .before .pre .0)
+    passed-none (a .edges .first) (a .edges .end) (wanted (a .room) (a .p) (a .left) (a .index .now)) (c .before .pre .0)
 
 visit-pair-requires : tie.Need-visit-pair-requires Inv-loop μ-loop
 visit-pair-requires c κs = c .before .before .before .loop .inv .visited .grows .stored
@@ -46,7 +47,7 @@ returns c =
     let read = call .before .before in
     let turn = read .before in
     let a = turn .before .before .before .args in
-    passed-overflows (a .edges .first) (a .edges .end) (wanted (a .p) (a .left) (a .index .now)) (turn .loop-test .taken)
+    passed-overflows (a .edges .first) (a .edges .end) (wanted (a .room) (a .p) (a .left) (a .index .now)) (turn .loop-test .taken)
     (turn .before .loop .inv)
     (rw (c .enum-told .given .1, read .transition-at .ensures) at (call .visit-pair .ensures))
 
@@ -55,7 +56,7 @@ add-k c =
     let call = c .before .before .before .before .before in
     let at-loop = call .before .before .before .before in
     let start = at-loop .before .before in
-    omega (arith, start .good .1 .1 .1 .1 .1 .0)
+    omega (arith, start .good .1 .1 .1 .1 .1 .1 .0)
 
 loop-less : tie.Need-loop-less Inv-loop μ-loop
 loop-less c = omega arith
@@ -66,7 +67,7 @@ loop-again c =
     let read = call .before .before in
     let turn = read .before in
     let a = turn .before .before .before .args in
-    passed-next (a .edges .first) (a .edges .end) (wanted (a .p) (a .left) (a .index .now)) (turn .loop-test .taken)
+    passed-next (a .edges .first) (a .edges .end) (wanted (a .room) (a .p) (a .left) (a .index .now)) (turn .loop-test .taken)
     (turn .before .loop .inv)
     (rw (c .before .more .given .1, read .transition-at .ensures) at (call .visit-pair .ensures))
 
@@ -76,7 +77,7 @@ same-length-2 c = c .before .loop .inv .visited .grows .long
 returns-2 : tie.Need-returns-2 Inv-loop μ-loop
 returns-2 c =
     let a = c .before .before .before .args in
-    passed-all (a .edges .first) (a .edges .end) (wanted (a .p) (a .left) (a .index .now)) (c .loop-test .left)
+    passed-all (a .edges .first) (a .edges .end) (wanted (a .room) (a .p) (a .left) (a .index .now)) (c .loop-test .left)
     (c .before .loop .inv)
 
 pub visit-edges-spec : {M : Type 1} → statement M

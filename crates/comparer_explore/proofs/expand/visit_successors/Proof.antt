@@ -14,32 +14,34 @@ use Rattle.comparer_explore.proofs.expand.visit_successors.Statement.{s
 use Rattle.comparer_explore.proofs.expand.visit_successors.Tie as tie
 
 abbrev Inv-loop : tie.InvT-loop
-Inv-loop table₀ n index p end m₀ k₀ table m k = Passed k₀ end (EdgeKey index p) k n table₀ m table
+Inv-loop table₀ n index p room end m₀ k₀ table m k = Passed k₀ end (EdgeKey index p) k n table₀ m table
 
 abbrev μ-loop : tie.MeasureT-loop
-μ-loop table₀ n index p end m₀ k₀ table m k = end - k
+μ-loop table₀ n index p room end m₀ k₀ table m k = end - k
 
 -- what is wanted of the right edges that are visited is what is wanted of the left edge
 visited : (c : tie.After-visit-edges Inv-loop μ-loop)
     → let turn = c .before .before .before .before .before in
     let at = turn .before .loop in
-    let a = turn .before .before .before .before .args in
+    let a = turn .before .before .before .before .before .args in
     Visited (EdgeKey (a .index .now) (a .p) (at .k)) (at .m) (at .table) (c .visit-edges .result) (c .visit-edges .last .0)
 visited c =
     let others = c .before .before in
     let read = others .before in
-    rw (others .tagged .ensures, read .transition-at .ensures, read .before .edge-at .ensures) at (c .visit-edges .ensures)
+    let room = c .before .before .before .before .before .before .before .before in
+    rw (others .tagged .ensures, read .transition-at .ensures, read .before .edge-at .ensures, room .has-room .ensures) at
+    (c .visit-edges .ensures)
 
 loop-holds : tie.Need-loop-holds Inv-loop μ-loop
 loop-holds c =
-    let start = c .before .before in
+    let start = c .before .before .before in
     let edges = c .edges-of .result in
     passed-none (edges .first) (edges .end) (EdgeKey (start .args .index .now) (start .args .p)) (start .pre .0)
 
 visit-edges-requires : tie.Need-visit-edges-requires Inv-loop μ-loop
 visit-edges-requires c κs =
     let turn = c .before .before .before .before in
-    let start = turn .before .before .before .before in
+    let start = turn .before .before .before .before .before in
     (turn .before .loop .inv .visited .grows .stored, start .pre .1 .0)
 
 same-length : tie.Need-same-length Inv-loop μ-loop
@@ -53,7 +55,7 @@ returns c =
     let call = c .before .before .before .before in
     let turn = call .before .before .before .before .before in
     let listed = turn .before .before in
-    let start = listed .before .before in
+    let start = listed .before .before .before in
     let a = start .args in
     let edges = listed .edges-of .result in
     let overflows =
@@ -73,7 +75,7 @@ loop-again c =
     let call = c .before .before .before .before .before in
     let turn = call .before .before .before .before .before in
     let listed = turn .before .before in
-    let a = listed .before .before .args in
+    let a = listed .before .before .before .args in
     let edges = listed .edges-of .result in
     passed-next (edges .first) (edges .end) (EdgeKey (a .index .now) (a .p)) (turn .loop-test .taken) (turn .before .loop .inv)
     (rw (c .before .more .given .1) at (visited call))
@@ -84,7 +86,7 @@ same-length-2 c = c .before .loop .inv .visited .grows .long
 returns-2 : tie.Need-returns-2 Inv-loop μ-loop
 returns-2 c =
     let listed = c .before .before in
-    let start = listed .before .before in
+    let start = listed .before .before .before in
     let a = start .args in
     let edges = listed .edges-of .result in
     let completes =
@@ -99,6 +101,7 @@ visit-successors-spec =
     (tie.spec
     Inv-loop
     μ-loop
+    (λ c κs. search needs)
     (λ c κs. search needs)
     loop-holds
     (λ c κs. search needs)

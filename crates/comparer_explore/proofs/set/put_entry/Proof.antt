@@ -1,8 +1,10 @@
--- `comparer_explore::set::put_entry` meets its contract: it writes three words. Assumes nothing.
+-- `comparer_explore::set::put_entry` meets its contract: it writes three words, and the first leaves the heads. Assumes nothing.
 use native.Mathlib.Numerals.{add-one}
 use native.Mathlib.Omega.{arith}
+use denote.Ref.{now}
 use borrow.Author.Needs.{needs}
 use Rattle.outcome.specs.Compare.{capacity}
+use Rattle.comparer_explore_laws.proofs.Stored.{head-kept}
 use Rattle.comparer_explore.proofs.set.put_entry.Statement.{statement}
 use Rattle.comparer_explore.proofs.set.put_entry.Tie as tie
 
@@ -51,19 +53,21 @@ returns : tie.Need-returns
 returns c =
     let third = c .before .before in
     let second = third .before .before .before .before in
-    let first = second .before .before .before .before in
-    let start = first .before .before .before .before .before in
-    cc (add-one (start .args .n))
+    let read = second .before .before in
+    let first = read .before .before .before .before in
+    let start = first .before .before .before in
+    let a = start .args in
+    cc (add-one (a .n), head-kept (now (a .table)) (a .n) (a .key) (a .b))
 
 pub put-entry-spec : {M : Type 1} → statement M
 put-entry-spec =
     tie.close
     (tie.spec
+    mul-put-word
+    put-word-requires
     mul-word-at
     add-word-at
     word-at-requires
-    mul-put-word
-    put-word-requires
     mul-put-word-2
     add-put-word
     put-word-requires-2

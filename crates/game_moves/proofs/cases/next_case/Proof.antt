@@ -11,10 +11,10 @@ use Rattle.game_moves.proofs.cases.next_case.Statement.{statement}
 use Rattle.game_moves.proofs.cases.next_case.Tie as tie
 
 abbrev Inv-loop : tie.InvT-loop
-Inv-loop p side kind others from n₀ n = caseFrom others p side kind from ≡ caseFrom others p side kind n
+Inv-loop p side kind others room from n₀ n = caseFrom others room p side kind from ≡ caseFrom others room p side kind n
 
 abbrev μ-loop : tie.MeasureT-loop
-μ-loop p side kind others from n₀ n = 9 - n
+μ-loop p side kind others room from n₀ n = 9 - n
 
 loop-holds : tie.Need-loop-holds Inv-loop μ-loop
 loop-holds c = refl
@@ -28,7 +28,7 @@ returns c =
     rw named
     (sym
     (here .loop .inv
-    ∙ case-here 6 (a .others) (a .p) (a .side) (a .kind) (here .loop .n) long (omega arith)
+    ∙ case-here 6 (a .others) (a .room) (a .p) (a .side) (a .kind) (here .loop .n) long (omega arith)
     (rw (← named) (sym (c .before .has-case .ensures) ∙ c .if1 .taken))))
 
 loop-again : tie.Need-loop-again Inv-loop μ-loop
@@ -37,14 +37,16 @@ loop-again c =
     let a = here .before .args in
     let long : length (a .p .partners) ≡ 6 = search needs in
     here .loop .inv
-    ∙ case-later 6 (a .others) (a .p) (a .side) (a .kind) (here .loop .n) long (omega arith)
+    ∙ case-later 6 (a .others) (a .room) (a .p) (a .side) (a .kind) (here .loop .n) long (omega arith)
     (rw (← c .before .before .case-of .ensures) (sym (c .before .has-case .ensures) ∙ c .if1 .left))
 
 returns-2 : tie.Need-returns-2 Inv-loop μ-loop
 returns-2 c =
     let a = c .before .before .args in
     let long : length (a .p .partners) ≡ 6 = search needs in
-    sym (c .before .loop .inv ∙ case-none 6 (a .others) (a .p) (a .side) (a .kind) (c .before .loop .n) long (omega arith))
+    sym
+    (c .before .loop .inv
+    ∙ case-none 6 (a .others) (a .room) (a .p) (a .side) (a .kind) (c .before .loop .n) long (omega arith))
 
 pub next-case-spec : {M : Type 1} → statement M
 next-case-spec =

@@ -12,14 +12,14 @@ use Rattle.game_moves.proofs.rounds.moved.Statement.{statement}
 use Rattle.game_moves.proofs.rounds.moved.Tie as tie
 
 abbrev Inv-loop : tie.InvT-loop
-Inv-loop left right before partners₀ i₀ partners i =
+Inv-loop size left right before partners₀ i₀ partners i =
     (i ≤ 6)
     × (length before ≡ 6)
     × (length partners ≡ 6)
     × (take i partners ≡ take i (matched (left .set) (right .set) (left .register) (right .register) 1 before))
 
 abbrev μ-loop : tie.MeasureT-loop
-μ-loop left right before partners₀ i₀ partners i = 6 - i
+μ-loop size left right before partners₀ i₀ partners i = 6 - i
 
 loop-holds : tie.Need-loop-holds Inv-loop μ-loop
 loop-holds c = (search needs, search needs, refl, refl)

@@ -32,8 +32,14 @@ returns-3 c =
 returns-4 : tie.Need-returns-4
 unfolding end
 returns-4 c =
+    let a = c .before .before .before .args in
+    c .step-of3 .ensures ∙ sym (ap (λ s. end s (a .p)) (c .before .enum-told4 .given .1))
+
+returns-5 : tie.Need-returns-5
+unfolding end
+returns-5 c =
     let p = c .before .before .args .p in
-    c .refuse2 .ensures ∙ sym (end-elsewhere p (p .stage) (c .before .match .keys3))
+    c .refuse2 .ensures ∙ sym (end-elsewhere p (p .stage) (c .before .match .keys4))
 
 pub step-spec : {M : Type 1} → statement M
 step-spec =
@@ -46,8 +52,11 @@ step-spec =
     (λ c κs. tt)
     (λ c. search needs)
     (λ c κs. tt)
+    (λ c. search needs)
+    (λ c κs. tt)
     (λ c κs. tt)
     returns
     returns-2
     returns-3
-    returns-4)
+    returns-4
+    returns-5)

@@ -1,54 +1,23 @@
--- `task_pairs::pair::step` meets its contract, stage by stage. Assumes nothing.
-use mathlib.Core.Path.{sym, _∙_, ap}
-use borrow.Author.Needs.{needs}
-use Rattle.task.specs.declared.Stage.the-variants.{Edges}
-use Rattle.task.specs.TaskFile.{pair}
-use Rattle.task_progress.proofs.OutOfPlace.{pair-elsewhere}
+-- `task_pairs::pair::step` meets its contract. Assumes nothing.
+use mathlib.Core.Path.{sym, _∙_}
+use borrow.Author.Tests.{not-true, not-false}
+use Rattle.task_pairs.proofs.RecordPlaces.{pair-placed}
 use Rattle.task_pairs.proofs.pair.step.Statement.{statement}
 use Rattle.task_pairs.proofs.pair.step.Tie as tie
 
 returns : tie.Need-returns
-unfolding pair
 returns c =
-    let left = c .before in
-    let edges = left .before .before .before in
-    let a = edges .before .before .before .args in
-    c .refuse .ensures
-    ∙ sym (ap (λ s. pair s (a .p) (a .body .now)) (edges .stage .given .1 ∙ ap Edges (left .enum-told .given .1)))
+    let asked = c .before .before in
+    let a = asked .before .before .args in
+    let elsewhere = sym (asked .among-pairs .ensures) ∙ not-true _ (c .before .if1 .taken) in
+    c .refuse .ensures ∙ sym (rw elsewhere at (pair-placed (a .p) (a .body .now) (a .p .stage)))
 
 returns-2 : tie.Need-returns-2
-unfolding pair
 returns-2 c =
-    let right = c .before in
-    let edges = right .before .before .before in
-    let a = edges .before .before .before .args in
-    c .step-of .ensures
-    ∙ sym (ap (λ s. pair s (a .p) (a .body .now)) (edges .stage .given .1 ∙ ap Edges (right .enum-told2 .given .1)))
-
-returns-3 : tie.Need-returns-3
-unfolding pair
-returns-3 c =
-    let a = c .before .before .before .before .args in
-    c .step-of2 .ensures ∙ sym (ap (λ s. pair s (a .p) (a .body .now)) (c .before .enum-told3 .given .1))
-
-returns-4 : tie.Need-returns-4
-returns-4 c =
-    let a = c .before .before .before .args in
-    c .refuse2 .ensures ∙ sym (pair-elsewhere (a .p) (a .body .now) (a .p .stage) (c .before .match .keys3))
+    let asked = c .before .before in
+    let a = asked .before .before .args in
+    let here = sym (asked .among-pairs .ensures) ∙ not-false _ (c .before .if1 .left) in
+    c .step-of .ensures ∙ sym (rw here at (pair-placed (a .p) (a .body .now) (a .p .stage)))
 
 pub step-spec : {M : Type 1} → statement M
-step-spec =
-    tie.close
-    (tie.spec
-    (λ c. search needs)
-    (λ c. search needs)
-    (λ c κs. tt)
-    (λ c. search needs)
-    (λ c κs. tt)
-    (λ c. search needs)
-    (λ c κs. tt)
-    (λ c κs. tt)
-    returns
-    returns-2
-    returns-3
-    returns-4)
+step-spec = tie.close (tie.spec (λ c κs. tt) (λ c κs. tt) returns (λ c κs. tt) returns-2)

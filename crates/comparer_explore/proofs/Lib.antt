@@ -1,3 +1,4 @@
 -- What several proofs show of answers.
 mod Visited
 mod Explores
+pub mod HalfRounds

@@ -1,2 +1,3 @@
 -- What the functions on the table answer.
 pub mod ExploreAnswers
+pub mod HalfRounds

@@ -5,6 +5,7 @@ use crate::set::Inserted;
 use fra::Model;
 use fra::Position;
 use fra::Side;
+use fra::has;
 use game_index::Range;
 use game_index::Transition;
 use game_index::layout::SIZE;
@@ -17,14 +18,15 @@ ghost use Prim.Native.Nat.{_<_};
 ghost use mathlib.Core.Path.{_≡_};
 ghost use mathlib.Core.Bool.{true};
 ghost use Rattle.fra.specs.Position.{legal};
-ghost use Rattle.game_moves.specs.AfterRound.{movedTo};
 ghost use Rattle.game_index.specs.Reading.{taskIn, rulesIn};
 ghost use Rattle.game_index.specs.Writing.{Index};
 ghost use Rattle.table_laws.specs.Keys.{keyOf, keyLimit};
 ghost use Rattle.comparer_explore_laws.specs.Stored.{Stored};
+ghost use Rattle.comparer_explore_laws.specs.HalfRounds.{inSet};
 ghost use Rattle.comparer_explore_laws.specs.EdgeKeys.{PairKey, RangeKey};
 ghost use Rattle.comparer_explore_laws.specs.Exploring.{SuccessorKey};
 ghost use Rattle.comparer_explore.specs.ExploreAnswers.{Visited};
+ghost use Rattle.comparer_explore.specs.HalfRounds.{halfOf, joinedTo};
 
 // Inserts a key.
 pub fn visit(table: &mut [u8], n: usize, key: u32) -> Explored
@@ -38,18 +40,47 @@ pub fn visit(table: &mut [u8], n: usize, key: u32) -> Explored
     }
 }
 
-// The key of the position after a left and a right edge have taken one number, where the history then has this size, digit by
-// digit: the position is not made.
-fn key_after(p: Position, size: u8, left: Target, right: Target) -> u32
-    ensures { λ r. ⌜ (r ≡ keyOf (movedTo p size left right)) × (r < keyLimit) ⌝ }
+// What a left edge leaves of the matching, whichever right edge takes the same number: the partners of the registers in its to
+// set, and the register that holds the number taken, or 0 where that set has it not. It is made once for each left edge.
+struct Half {
+    partners: [u8; 6],
+    register: u8,
+}
+
+// The register if it is in the set, else 0.
+fn in_set(set: u8, i: u8) -> u8
+    ensures { λ r. ⌜ r ≡ inSet set i ⌝ }
+{
+    (has(set, i) as u8) * i
+}
+
+fn left_half(p: Position, left: Target) -> Half
+    ensures { λ r. ⌜ r ≡ halfOf p left ⌝ }
 {
     let before = p.partners;
-    let mut key = ((left.state as u32) % STATE_BASE) * STATE_BASE
-        + (right.state as u32) % STATE_BASE;
+    let mut partners = Position::EMPTY;
     let mut i: u8 = 0;
     while i < Model::REGISTERS {
-        let x = rounds::rejoined(left.register, right.register, i + 1, before[i as usize]);
-        key = key * PARTNER_BASE + (rounds::remaining(left.set, right.set, i + 1, x) as u32);
+        partners[i as usize] = (has(left.set, i + 1) as u8) * before[i as usize];
+        i += 1;
+    }
+    Half {
+        partners,
+        register: in_set(left.set, left.register),
+    }
+}
+
+// The key of the position after both halves of a round, where the history then has this size, digit by digit: the position is not
+// made.
+fn key_after(half: Half, size: u8, left: u8, right: Target) -> u32
+    ensures { λ r. ⌜ (r ≡ keyOf (joinedTo half size left right)) × (r < keyLimit) ⌝ }
+{
+    let before = half.partners;
+    let mut key = (left as u32) % STATE_BASE * STATE_BASE + (right.state as u32) % STATE_BASE;
+    let mut i: u8 = 0;
+    while i < Model::REGISTERS {
+        let x = rounds::rejoined(half.register, right.register, i + 1, before[i as usize]);
+        key = key * PARTNER_BASE + (in_set(right.set, x) as u32);
         i += 1;
     }
     key * HISTORY_BASE + (size as u32)
@@ -62,10 +93,12 @@ fn visit_pair(
     n: usize,
     p: Position,
     room: bool,
+    half: Half,
     left: Transition,
     right: Transition,
 ) -> Explored
     requires { ⌜ Stored n (now table) ⌝ }
+    requires { ⌜ half ≡ halfOf p (left .target) ⌝ }
     ensures { λ r. ⌜ Visited (PairKey room p left right) n (now (table .entry)) r (now (table .exit)) ⌝ }
 {
     let kind = left.kind;
@@ -76,11 +109,16 @@ fn visit_pair(
     let target = left.target;
     let other_target = right.target;
     let size = rounds::size_after(kind, other_kind, p.history);
-    let Explored::Count(m) = visit(table, n, key_after(p, size, target, other_target)) else {
+    let Explored::Count(m) = visit(table, n, key_after(half, size, target.state, other_target))
+    else {
         return Explored::TooMany;
     };
     if room & (size != p.history) & rounds::also_seen(kind, other_kind) {
-        return visit(table, m, key_after(p, p.history, target, other_target));
+        return visit(
+            table,
+            m,
+            key_after(half, p.history, target.state, other_target),
+        );
     }
     Explored::Count(m)
 }
@@ -99,12 +137,13 @@ fn visit_edges(
     requires { ⌜ Index (now index) ⌝ }
     ensures { λ r. ⌜ Visited (RangeKey (now (index .entry)) room p left edges) n (now (table .entry)) r (now (table .exit)) ⌝ }
 {
+    let half = left_half(p, left.target);
     let end = edges.end;
     let mut m = n;
     let mut k = edges.first;
     while k < end {
         let right = game_index::transition_at(index, Side::Right, k);
-        let Explored::Count(more) = visit_pair(table, m, p, room, left, right) else {
+        let Explored::Count(more) = visit_pair(table, m, p, room, half, left, right) else {
             return Explored::TooMany;
         };
         m = more;

@@ -2,6 +2,7 @@
 pub mod HashChains
 pub mod Growth
 pub mod Stored
+pub mod HalfRounds
 pub mod RoundKeys
 pub mod EdgeKeys
 pub mod PairKeys

@@ -2,5 +2,6 @@
 pub mod HashChains
 pub mod Stored
 pub mod Growth
+pub mod HalfRounds
 pub mod EdgeKeys
 pub mod Exploring

@@ -3,3 +3,4 @@ pub mod Matchings
 pub mod HistorySizes
 pub mod IdCases
 pub mod AttacksBySide
+pub mod TestBytes

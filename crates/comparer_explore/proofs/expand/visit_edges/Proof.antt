@@ -22,18 +22,21 @@ abbrev wanted : Bool → Position → Transition → List ℕ → ℕ → ℕ �
 wanted room p left index k = PairKey room p left (transitionOf (modelIn index Right) k)
 
 abbrev Inv-loop : tie.InvT-loop
-Inv-loop table₀ n p room left index end m₀ k₀ table m k = Passed k₀ end (wanted room p left index) k n table₀ m table
+Inv-loop table₀ n p room left index half end m₀ k₀ table m k = Passed k₀ end (wanted room p left index) k n table₀ m table
 
 abbrev μ-loop : tie.MeasureT-loop
-μ-loop table₀ n p room left index end m₀ k₀ table m k = end - k
+μ-loop table₀ n p room left index half end m₀ k₀ table m k = end - k
 
 loop-holds : tie.Need-loop-holds Inv-loop μ-loop
 loop-holds c =
-    let a = c .before .args in
-    passed-none (a .edges .first) (a .edges .end) (wanted (a .room) (a .p) (a .left) (a .index .now)) (c .before .pre .0)
+    let start = c .before .before in
+    let a = start .args in
+    passed-none (a .edges .first) (a .edges .end) (wanted (a .room) (a .p) (a .left) (a .index .now)) (start .pre .0)
 
 visit-pair-requires : tie.Need-visit-pair-requires Inv-loop μ-loop
-visit-pair-requires c κs = c .before .before .before .loop .inv .visited .grows .stored
+visit-pair-requires c κs =
+    let at-loop = c .before .before .before in
+    (at-loop .loop .inv .visited .grows .stored, at-loop .before .left-half .ensures)
 
 same-length : tie.Need-same-length Inv-loop μ-loop
 same-length c =
@@ -46,7 +49,7 @@ returns c =
     let call = c .before .before .before .before in
     let read = call .before .before in
     let turn = read .before in
-    let a = turn .before .before .before .args in
+    let a = turn .before .before .before .before .args in
     passed-overflows (a .edges .first) (a .edges .end) (wanted (a .room) (a .p) (a .left) (a .index .now)) (turn .loop-test .taken)
     (turn .before .loop .inv)
     (rw (c .enum-told .given .1, read .transition-at .ensures) at (call .visit-pair .ensures))
@@ -55,7 +58,7 @@ add-k : tie.Need-add-k Inv-loop μ-loop
 add-k c =
     let call = c .before .before .before .before .before in
     let at-loop = call .before .before .before .before in
-    let start = at-loop .before .before in
+    let start = at-loop .before .before .before in
     omega (arith, start .good .1 .1 .1 .1 .1 .1 .0)
 
 loop-less : tie.Need-loop-less Inv-loop μ-loop
@@ -66,7 +69,7 @@ loop-again c =
     let call = c .before .before .before .before .before in
     let read = call .before .before in
     let turn = read .before in
-    let a = turn .before .before .before .args in
+    let a = turn .before .before .before .before .args in
     passed-next (a .edges .first) (a .edges .end) (wanted (a .room) (a .p) (a .left) (a .index .now)) (turn .loop-test .taken)
     (turn .before .loop .inv)
     (rw (c .before .more .given .1, read .transition-at .ensures) at (call .visit-pair .ensures))
@@ -76,7 +79,7 @@ same-length-2 c = c .before .loop .inv .visited .grows .long
 
 returns-2 : tie.Need-returns-2 Inv-loop μ-loop
 returns-2 c =
-    let a = c .before .before .before .args in
+    let a = c .before .before .before .before .args in
     passed-all (a .edges .first) (a .edges .end) (wanted (a .room) (a .p) (a .left) (a .index .now)) (c .loop-test .left)
     (c .before .loop .inv)
 
@@ -86,6 +89,7 @@ visit-edges-spec =
     (tie.spec
     Inv-loop
     μ-loop
+    (λ c κs. search needs)
     loop-holds
     (λ c κs. search needs)
     visit-pair-requires

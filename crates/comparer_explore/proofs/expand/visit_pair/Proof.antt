@@ -14,7 +14,9 @@ use Rattle.game_moves.specs.HistorySizes.{firstSize}
 use Rattle.comparer_explore_laws.specs.Growth.{Completes}
 use Rattle.comparer_explore_laws.proofs.Growth.{completes-as, overflows-as, completes-none}
 use Rattle.comparer_explore_laws.proofs.PairKeys.{keyAfter, seenToo, first-key, seen-key, either-key, first-key-alone}
+use Rattle.table_laws.specs.Keys.{keyOf}
 use Rattle.comparer_explore.specs.ExploreAnswers.{Visited}
+use Rattle.comparer_explore.proofs.HalfRounds.{both-halves}
 use Rattle.comparer_explore.proofs.Visited.{visited-as, visited-then}
 use Rattle.comparer_explore.proofs.expand.visit_pair.Statement.{statement}
 use Rattle.comparer_explore.proofs.expand.visit_pair.Tie as tie
@@ -22,12 +24,12 @@ use Rattle.comparer_explore.proofs.expand.visit_pair.Tie as tie
 returns : tie.Need-returns
 returns c =
     let apart = sym (c .before .joint .ensures) ∙ not-true _ (c .if1 .taken) in
-    completes-none (c .before .before .before .pre) (λ k w. not-both _ (w .0) apart)
+    completes-none (c .before .before .before .pre .0) (λ k w. not-both _ (w .0) apart)
 
 visit-requires : tie.Need-visit-requires
 visit-requires c κs =
     let start = c .before .before .before .before .before .before .before .before in
-    (start .pre, c .key-after .ensures .1)
+    (start .pre .0, c .key-after .ensures .1)
 
 -- the two edges can take one number
 joint : (c : tie.After-visit)
@@ -46,8 +48,11 @@ first : (c : tie.After-visit)
 first c =
     let key = c .before in
     let a = key .before .before .before .before .before .before .before .before .args in
+    let start = key .before .before .before .before .before .before .before .before in
+    let halves = both-halves (a .p) (a .half) (key .before .before .size-after .result) (a .left .target) (a .right .target) (start .pre .1) in
     let e =
     key .key-after .ensures .0
+    ∙ ap keyOf halves
     ∙ ap (keyAfter (a .room) (a .p) (a .left) (a .right)) (key .before .before .size-after .ensures) in
     visited-as (a .n) (now (a .table)) (c .visit .result) (c .visit .last .0) (λ k d. d ∙ e) (λ k d. d ∙ sym e)
     (c .visit .ensures)
@@ -98,7 +103,9 @@ returns-3 c =
     let test = again .before .before .before in
     let call = test .before .before .before .before .before .before .before .before in
     let a = call .before .before .before .before .before .before .before .before .before .args in
-    let e = again .before .key-after2 .ensures .0 in
+    let start = call .before .before .before .before .before .before .before .before .before in
+    let halves = both-halves (a .p) (a .half) (a .p .history) (a .left .target) (a .right .target) (start .pre .1) in
+    let e = again .before .key-after2 .ensures .0 ∙ ap keyOf halves in
     let seen = sym (tried (test .before)) ∙ test .if2 .taken in
     visited-then (again .visit2 .result) (again .visit2 .last .0)
     (first-key (a .room) (a .p) (a .left) (a .right) (joint call))

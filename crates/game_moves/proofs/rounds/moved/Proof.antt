@@ -29,7 +29,7 @@ loop-again c =
     let here = c .before .before .before in
     let a = here .before .before .args in
     let (i, old, long, same) = here .loop .inv in
-    let more = matched-more (a .left .set) (a .right .set) (a .left .register) (a .right .register) (a .p .partners) (here .loop .partners) (here .loop .i) (omega arith) (omega arith) same in
+    let more = matched-more (a .left .set) (a .right .set) (a .left .register) (a .right .register) (a .p .partners) (here .loop .partners) (here .loop .i) (omega arith) same (omega arith) in
     (omega arith, old, simp length-set long, rw (c .remaining .ensures, c .before .rejoined .ensures) more)
 
 returns : tie.Need-returns Inv-loop μ-loop
@@ -37,7 +37,7 @@ unfolding movedTo
 returns c =
     let a = c .before .before .before .args in
     let (i, old, long, same) = c .before .loop .inv in
-    let e = matched-all (a .left .set) (a .right .set) (a .left .register) (a .right .register) (a .p .partners) (c .before .loop .partners) (c .before .loop .i) (omega arith) (omega arith) same in
+    let e = matched-all (a .left .set) (a .right .set) (a .left .register) (a .right .register) (a .p .partners) (c .before .loop .partners) (c .before .loop .i) (omega arith) same (omega arith) in
     rw e
 
 pub moved-spec : {M : Type 1} → statement M

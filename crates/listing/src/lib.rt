@@ -137,35 +137,23 @@ impl Number {
             self.first < other.first
         }
     }
-}
 
-// The first part of the number of the position whose bytes start here.
-fn first_at(list: &[u8], at: usize) -> u64
-    requires { ⌜ at + positionWidth ≤ length (now list) ⌝ }
-    ensures { λ r. ⌜ r ≡ numberIn (drop at (now (list .entry))) .first ⌝ }
-{
-    (word_at(list, at) as u64) * 4294967296 + (word_at(list, at + layout::WORD) as u64)
-}
-
-// The position whose bytes start here has a smaller number. Most steps of a search do not read its last byte.
-fn below_at(list: &[u8], at: usize, other: Number) -> bool
-    requires { ⌜ at + positionWidth ≤ length (now list) ⌝ }
-    ensures { λ r. ⌜ r ≡ ltb (whole (numberIn (drop at (now (list .entry))))) (whole other) ⌝ }
-{
-    let first = first_at(list, at);
-    if first == other.first {
-        list[at + HISTORY] < other.last
-    } else {
-        first < other.first
+    fn equals(self, other: Number) -> bool
+        ensures { λ r. ⌜ r ≡ eqb (whole self) (whole other) ⌝ }
+    {
+        (self.first == other.first) & (self.last == other.last)
     }
 }
 
-// The position whose bytes start here has this number.
-fn equals_at(list: &[u8], at: usize, other: Number) -> bool
+// The number of the position whose bytes start here.
+fn number_at(list: &[u8], at: usize) -> Number
     requires { ⌜ at + positionWidth ≤ length (now list) ⌝ }
-    ensures { λ r. ⌜ r ≡ eqb (whole (numberIn (drop at (now (list .entry))))) (whole other) ⌝ }
+    ensures { λ r. ⌜ r ≡ numberIn (drop at (now (list .entry))) ⌝ }
 {
-    (first_at(list, at) == other.first) & (list[at + HISTORY] == other.last)
+    Number {
+        first: (word_at(list, at) as u64) * 4294967296 + (word_at(list, at + layout::WORD) as u64),
+        last: list[at + HISTORY],
+    }
 }
 
 // The first word of a position's bytes.
@@ -210,7 +198,7 @@ fn lower_bound(list: &[u8], records: Listing, sought: Number) -> usize
     let mut high = records.count;
     while low < high {
         let middle = low + (high - low) / 2;
-        if below_at(list, middle * records.width + records.position, sought) {
+        if number_at(list, middle * records.width + records.position).below(sought) {
             low = middle + 1;
         } else {
             high = middle;
@@ -229,7 +217,7 @@ pub fn find(list: &[u8], records: Listing, p: Position) -> Place
     if records.count <= at {
         return Place::Nowhere;
     }
-    if equals_at(list, at * records.width + records.position, sought) {
+    if number_at(list, at * records.width + records.position).equals(sought) {
         return Place::At(at);
     }
     Place::Nowhere

@@ -3,6 +3,7 @@ use Prim.Native.Nat.{ℕ, _+_, _*_, _≤_, _<_}
 use mathlib.Core.Path.{_≡_, sym, _∙_, ap, subst}
 use native.Mathlib.Omega.{arith}
 use lib.ListN.{length}
+use lib.Dec.{eqb}
 use denote.Ref.{now}
 use borrow.Author.Needs.{needs}
 use borrow.Author.Tests.{eqb-true, eqb-false}
@@ -10,6 +11,7 @@ use Rattle.fra.specs.Position.{bytes}
 use Rattle.listing.specs.Digits.{value, Below}
 use Rattle.listing.specs.Listing.{positionsIn, whole, numberAt, Bound}
 use Rattle.listing.specs.Lookup.{placeOf}
+use Rattle.listing.specs.declared.Number.{Number}
 use Rattle.listing.specs.declared.Place.the-variants.{At, Nowhere}
 use Rattle.listing.proofs.PositionNumbers.{record-room, position-below, bytes-length, position-number}
 use Rattle.listing.proofs.Halving.{found-at, found-nowhere}
@@ -84,30 +86,46 @@ room c =
 returns : tie.Need-returns
 returns c = nowhere (c .before .before) (λ h e. omega arith)
 
-mul-equals-at : tie.Need-mul-equals-at
-mul-equals-at c = search (needs, room (c .before))
+mul-number-at : tie.Need-mul-number-at
+mul-number-at c = search (needs, room (c .before))
 
-add-equals-at : tie.Need-add-equals-at
-add-equals-at c =
+add-number-at : tie.Need-add-number-at
+add-number-at c =
     let ended = c .before .before .before .before in
     let start = ended .before .before .before in
     search (needs, room (c .before .before), start .pre .fitting .position)
 
-equals-at-requires : tie.Need-equals-at-requires
-equals-at-requires c κs =
+number-at-requires : tie.Need-number-at-requires
+number-at-requires c κs =
     let ended = c .before .before .before .before in
     let start = ended .before .before .before in
     omega (arith, room (c .before .before), start .pre .fitting .position)
 
+-- the number that is read there is the sought one exactly if the test says so
+module _ (c : tie.After-equals) where
+  abbrev read : tie.After-number-at
+  read = c .before
+
+  abbrev else1 : tie.Else1
+  else1 = read .before .before .before
+
+  same : let ended = else1 .before .before in
+      let a = ended .before .before .before .args in
+      c .equals .result
+      ≡ eqb (numberAt (a .records) (now (a .list)) (ended .lower-bound .result)) (whole (ended .before .of .result))
+  same =
+      c .equals .ensures
+      ∙ ap (λ (n : Number). eqb (whole n) (whole (else1 .before .before .before .of .result))) (read .number-at .ensures)
+
 returns-2 : tie.Need-returns-2
 returns-2 c =
-    let else1 = c .before .before .before .before in
-    here (else1 .before .before) (else1 .if1 .left) (eqb-true _ _ (sym (c .before .equals-at .ensures) ∙ c .if2 .taken))
+    let else1 = else1 (c .before) in
+    here (else1 .before .before) (else1 .if1 .left) (eqb-true _ _ (sym (same (c .before)) ∙ c .if2 .taken))
 
 returns-3 : tie.Need-returns-3
 returns-3 c =
-    let else1 = c .before .before .before .before in
-    nowhere (else1 .before .before) (λ h e. eqb-false _ _ (sym (c .before .equals-at .ensures) ∙ c .if2 .left) e)
+    let else1 = else1 (c .before) in
+    nowhere (else1 .before .before) (λ h e. eqb-false _ _ (sym (same (c .before)) ∙ c .if2 .left) e)
 
 pub find-spec : {M : Type 1} → statement M
 find-spec =
@@ -116,8 +134,9 @@ find-spec =
     (λ c κs. search needs)
     (λ c κs. search needs)
     returns
-    mul-equals-at
-    add-equals-at
-    equals-at-requires
+    mul-number-at
+    add-number-at
+    number-at-requires
+    (λ c κs. search needs)
     returns-2
     returns-3)

@@ -1,13 +1,15 @@
 -- `listing::lower_bound` meets its contract. The loop's invariant: the records before `low` have smaller numbers than the sought
 -- one, and those from `high` on have not. The measure is `high - low`. Assumes nothing.
 use Prim.Native.Nat.{ℕ, _+_, _*_, _-_, _/_, _≤_, _<_}
-use mathlib.Core.Path.{sym, _∙_}
+use mathlib.Core.Path.{_≡_, sym, _∙_, ap}
 use native.Mathlib.Omega.{arith}
 use lib.ListN.{length}
+use lib.Dec.{ltb}
 use denote.Ref.{now}
 use borrow.Author.Needs.{needs}
 use borrow.Author.Tests.{ltb-true, ltb-false}
 use Rattle.listing.specs.Listing.{whole, numberAt}
+use Rattle.listing.specs.declared.Number.{Number}
 use Rattle.listing.proofs.PositionNumbers.{record-room, numbers-rise}
 use Rattle.listing.proofs.Halving.{Bracket, bracket-start, bracket-up, bracket-down}
 use Rattle.listing.proofs.lower_bound.Statement.{statement}
@@ -40,22 +42,28 @@ rises c =
 loop-holds : tie.Need-loop-holds Inv-loop μ-loop
 loop-holds c = bracket-start _ _ _
 
-mul-below-at : tie.Need-mul-below-at Inv-loop μ-loop
-mul-below-at c = search (needs, room (c .before))
+mul-number-at : tie.Need-mul-number-at Inv-loop μ-loop
+mul-number-at c = search (needs, room (c .before))
 
-add-below-at : tie.Need-add-below-at Inv-loop μ-loop
-add-below-at c =
+add-number-at : tie.Need-add-number-at Inv-loop μ-loop
+add-number-at c =
     let at-start = c .before .before .before .before .before in
     search (needs, room (c .before .before), at-start .pre .fitting .position)
 
-below-at-requires : tie.Need-below-at-requires Inv-loop μ-loop
-below-at-requires c κs =
+number-at-requires : tie.Need-number-at-requires Inv-loop μ-loop
+number-at-requires c κs =
     let at-start = c .before .before .before .before .before in
     omega (arith, room (c .before .before), at-start .pre .fitting .position)
 
+-- a number that is read is compared as it stands in the bytes
+number-below : (sought : Number) {n m : Number} → n ≡ m → ltb (whole m) (whole sought) ≡ ltb (whole n) (whole sought)
+number-below sought e = ap (λ (x : Number). ltb (whole x) (whole sought)) (sym e)
+
 loop-again : tie.Need-loop-again Inv-loop μ-loop
 loop-again c =
-    let at-loop = c .before .before .before .before .before in
+    let tested = c .before in
+    let read = tested .before in
+    let at-loop = read .before .before .before .before in
     let known = at-loop .before in
     let a = known .before .args in
     bracket-up (numberAt (a .records) (now (a .list))) (a .records .count) (rises known) (whole (a .sought))
@@ -65,11 +73,13 @@ loop-again c =
     (at-loop .loop .inv)
     (omega arith)
     (omega arith)
-    (ltb-true _ _ (sym (c .before .below-at .ensures) ∙ c .if1 .taken))
+    (ltb-true _ _ (number-below (a .sought) (read .number-at .ensures) ∙ sym (tested .below .ensures) ∙ c .if1 .taken))
 
 loop-again-2 : tie.Need-loop-again-2 Inv-loop μ-loop
 loop-again-2 c =
-    let at-loop = c .before .before .before .before .before in
+    let tested = c .before in
+    let read = tested .before in
+    let at-loop = read .before .before .before .before in
     let known = at-loop .before in
     let a = known .before .args in
     bracket-down (numberAt (a .records) (now (a .list))) (a .records .count) (rises known) (whole (a .sought))
@@ -79,7 +89,7 @@ loop-again-2 c =
     (at-loop .loop .inv)
     (omega arith)
     (omega arith)
-    (ltb-false _ _ (sym (c .before .below-at .ensures) ∙ c .if1 .left))
+    (ltb-false _ _ (number-below (a .sought) (read .number-at .ensures) ∙ sym (tested .below .ensures) ∙ c .if1 .left))
 
 returns : tie.Need-returns Inv-loop μ-loop
 returns c =
@@ -96,9 +106,10 @@ lower-bound-spec =
     loop-holds
     (λ c. search needs)
     (λ c. search needs)
-    mul-below-at
-    add-below-at
-    below-at-requires
+    mul-number-at
+    add-number-at
+    number-at-requires
+    (λ c κs. search needs)
     (λ c. search needs)
     (λ c. search needs)
     loop-again

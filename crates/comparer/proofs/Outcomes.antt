@@ -129,7 +129,7 @@ module _ (b : List ℕ) {old new : List ℕ} where
 
 -- ── Reading ──
 
--- 1 to 10 change no buffer
+-- a file that is turned back changes no buffer
 pub unread : {n : ℕ} (c : Contest) (file table buffer : List ℕ) → readTask file .answer ≡ Unread n → Gives (compare c file table buffer) (Refused n) table buffer
 unfolding compare compareRead
 unread {n} c file table buffer e = rw e record { answers = refl; tables = refl; certificates = refl }

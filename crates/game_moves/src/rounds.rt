@@ -33,7 +33,7 @@ pub fn rejoined(a: u8, b: u8, i: u8, x: u8) -> u8
 
 // The partner x of left register i, if both are in the to sets. Both tests are made: a jump on the first would be guessed wrong
 // too often.
-pub fn remaining(left: u8, right: u8, i: u8, x: u8) -> u8
+fn remaining(left: u8, right: u8, i: u8, x: u8) -> u8
     ensures { λ r. ⌜ r ≡ remaining left right i x ⌝ }
 {
     let kept = has(left, i) & has(right, x);

@@ -31,7 +31,7 @@ use Rattle.outcome.specs.declared.Check.{Check}
 use Rattle.outcome.specs.declared.Verdict.the-variants.{Follows}
 use Rattle.promises.specs.Promises.{BothComparisons, returned, Gives}
 use Rattle.promises.proofs.Support.{checked-read}
-use Rattle.promises.proofs.Kept.{verdict-read, answers, kept-never, lost-rank, refuses-exactly}
+use Rattle.promises.proofs.ComparerPromises.{verdict-read, refuses-exactly, answers, kept-never, lost-rank}
 
 -- ── EQUAL gives FOLLOWS ──
 

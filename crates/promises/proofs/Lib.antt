@@ -1,3 +1,7 @@
 pub mod Support
+pub mod ReaderPromises
+pub mod AnswerNumbers
+pub mod ComparerPromises
+pub mod CheckerPromises
 pub mod Kept
 pub mod Both

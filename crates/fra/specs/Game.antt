@@ -152,6 +152,10 @@ lostWithin g t (suc n) p =
 abbrev pub NeverLost : Rules → Task → Position → Type 0
 NeverLost g t p = (n : ℕ) → lostWithin g t n p ≡ false
 
+-- lost: within some count of rounds
+abbrev pub EverLost : Rules → Task → Position → Type 0
+EverLost g t p = (n : ℕ) × (lostWithin g t n p ≡ true)
+
 -- the rounds of a lost position, its rank: it is lost within k rounds and not within fewer
 pub record HasRank (g : Rules) (t : Task) (p : Position) (k : ℕ) : Type 0 where
   pub lost : lostWithin g t k p ≡ true

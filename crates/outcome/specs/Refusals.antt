@@ -3,13 +3,13 @@
 use Prim.Native.Nat.{ℕ, _*_, _<_}
 use mathlib.Core.Path.{_≡_}
 use mathlib.Core.Logic.{_⊎_, _≢_}
-use mathlib.Core.Bool.{true, false}
+use mathlib.Core.Bool.{false}
 use mathlib.Core.List.{List, [], _∷_, _++_, flatMap}
 use lib.ListN.{length}
 use Rattle.fra.specs.Lists.{_∈_, Unique}
 use Rattle.fra.specs.Position.{legal, before}
 use Rattle.fra.specs.Rules.{Rules}
-use Rattle.fra.specs.Game.{lostWithin, NeverLost}
+use Rattle.fra.specs.Game.{NeverLost, EverLost}
 use Rattle.fra.specs.Reach.{Reached}
 use Rattle.fra.specs.declared.Position.{Position}
 use Rattle.fra.specs.declared.Task.{Task}
@@ -38,7 +38,7 @@ pub data CertificateTooLong (g : Rules) (t : Task) (buffer : List ℕ) : Type 0 
       → ((p : Position) → p ∈ positions → Reached g t p × NeverLost g t p)
       → length buffer < length positions * widthOf Kept
       → CertificateTooLong g t buffer
-  lost-too-long : (n : ℕ) → lostWithin g t n (t .start) ≡ true
+  lost-too-long : EverLost g t (t .start)
       → (positions : List Position) → Unique positions
       → ((p : Position) → p ∈ positions → Led g t p)
       → length buffer < length positions * widthOf Lost

@@ -1,16 +1,16 @@
 -- How long a certificate is, and that it is longer than a buffer exactly in the case that 01 names for refusal 12. For any register
 -- count, and any contest whose records are as wide as those of so many registers. Assumes nothing.
 use Prim.Native.Nat.{ℕ, suc, _*_, _<_}
-use mathlib.Core.Path.{_≡_, refl, _∙_}
+use mathlib.Core.Path.{_≡_, refl, _∙_, ap}
 use mathlib.Core.Logic.{_↔_}
-use mathlib.Core.List.{List}
+use mathlib.Core.List.{List, map, Memᴰ·map}
 use mathlib.Core.Option.{Option, none, some}
 use native.Mathlib.Nat.{mul-le-mul-right}
 use native.Mathlib.Omega.{arith}
 use lib.ListN.{length, length-map}
 use Rattle.fra.specs.Lists.{_∈_, Unique}
 use Rattle.fra.specs.Rules.{Rules}
-use Rattle.fra.specs.Game.{NeverLost}
+use Rattle.fra.specs.Game.{NeverLost, HasRank}
 use Rattle.fra.specs.Reach.{reached, rounds}
 use Rattle.fra.specs.Valid.{Valid}
 use Rattle.fra.specs.declared.Position.{Position}
@@ -21,12 +21,14 @@ use Rattle.fra_laws.proofs.Closure.{rising-unique}
 use Rattle.fra_laws.proofs.Legal.{legal-facts}
 use Rattle.fra_laws.proofs.Reached.{reached-exactly, reached-legal}
 use Rattle.outcome.specs.Verdicts.{Contest, kindOf, widthOf}
-use Rattle.outcome.specs.Certificate.{keptRecord, keptPositions, placeOf, lossRecord, losses, certificateBy}
+use Rattle.outcome.specs.Certificate.{keptRecord, placeOf, lossRecord, certificateBy}
 use Rattle.outcome.specs.Check.{keptLength, lossLength}
+use Rattle.outcome.specs.Listed.{KeptWritten, LossesWritten}
 use Rattle.outcome.specs.Refusals.{CertificateTooLong, kept-too-long, lost-too-long}
 use Rattle.outcome.specs.declared.Standing.the-variants.{Kept, Lost}
 use Rattle.outcome_laws.proofs.Encoding.{position-length, loss-length}
-use Rattle.outcome_laws.proofs.WrittenLists.{rounds-never, rounds-least, kept-exactly, kept-rising, listed, listed-computes, led-exactly, losses-places, loss-reached}
+use Rattle.outcome_laws.proofs.WrittenLists.{rounds-never, rounds-least, led-reached}
+use Rattle.outcome_laws.proofs.LeftBehind.{kept-left, losses-left}
 
 -- the records of a list that holds all positions of some kind need as many bytes as those of any other, or more
 outnumbered : {P : Position → Type 0} (l : List Position) → ((p : Position) → P p → p ∈ l)
@@ -44,19 +46,25 @@ module _ {r : ℕ} {t : Task} (valid : Valid r t) (c : Contest) where
   partners-long p m = legal-facts r t p (reached-legal valid g p m) .long
 
   module _ (kept-wide : widthOf Kept ≡ suc (keptLength r)) (lost-wide : widthOf Lost ≡ suc (lossLength r)) where
-    kept-length : length (certificateBy c t none) ≡ length (keptPositions g t) * widthOf Kept
-    unfolding certificateBy keptRecord
-    kept-length =
-        flatMap-length (keptRecord (kindOf (c .kept))) (keptPositions g t) (widthOf Kept)
+    -- the bytes of each certificate: as many records of one width as it lists positions
+    pub kept-length : {written : List ℕ} (w : KeptWritten c t written) → length written ≡ length (w .positions) * widthOf Kept
+    unfolding keptRecord
+    kept-length w =
+        ap length (w .encoded)
+        ∙ flatMap-length (keptRecord (kindOf (c .kept))) (w .positions) (widthOf Kept)
         (λ p m.
-        let b = position-length r p (partners-long p (reached-exactly valid g p .1 (kept-exactly valid g p .0 m .0))) in omega arith)
+        let b = position-length r p (partners-long p (reached-exactly valid g p .1 (w .exactly p .0 m .0))) in omega arith)
 
-    losses-length : (n : ℕ) → length (certificateBy c t (some n)) ≡ length (listed valid g) * widthOf Lost
-    unfolding certificateBy lossRecord
-    losses-length n =
-        flatMap-length (lossRecord (kindOf (c .lost))) (losses g t) (widthOf Lost)
-        (λ x m. let b = loss-length r x (partners-long (x .position) (loss-reached valid g x m)) in omega arith)
-        ∙ rw (← losses-places valid g, length-map (losses g t) placeOf)
+    pub losses-length : {written : List ℕ} (w : LossesWritten c t written)
+        → length written ≡ length (map placeOf (w .losses)) * widthOf Lost
+    unfolding lossRecord
+    losses-length w =
+        ap length (w .encoded)
+        ∙ flatMap-length (lossRecord (kindOf (c .lost))) (w .losses) (widthOf Lost)
+        (λ x m.
+        let led = w .exactly (x .position) .0 (Memᴰ·map placeOf m) in
+        let b = loss-length r x (partners-long (x .position) (led-reached valid g led)) in omega arith)
+        ∙ rw (length-map (w .losses) placeOf)
 
     -- refusal 12 in its case
     pub too-long-exactly : (buffer : List ℕ)
@@ -65,29 +73,35 @@ module _ {r : ℕ} {t : Task} (valid : Valid r t) (c : Contest) where
       where
         by : (o : Option ℕ) → rounds g t (t .start) ≡ o
             → CertificateTooLong (c .rules) t buffer ↔ (length buffer < length (certificateBy c t (rounds g t (t .start))))
-        by none e = rw (e, kept-length) (to, from)
+        by none e = rw (e, kept-length w) (to, from)
           where
+            w : KeptWritten c t (certificateBy c t none)
+            w = kept-left valid c
+
             never : NeverLost g t (t .start)
             never = rounds-never valid g .0 e
 
-            to : CertificateTooLong (c .rules) t buffer → length buffer < length (keptPositions g t) * widthOf Kept
+            to : CertificateTooLong (c .rules) t buffer → length buffer < length (w .positions) * widthOf Kept
             to (kept-too-long _ positions u h more) =
-                outnumbered (keptPositions g t) (λ p. kept-exactly valid g p .1) (widthOf Kept) (length buffer) positions u h more
-            to (lost-too-long n lost positions u h more) = absurd (not-both _ lost (never n))
+                outnumbered (w .positions) (λ p. w .exactly p .1) (widthOf Kept) (length buffer) positions u h more
+            to (lost-too-long (n, lost) positions u h more) = absurd (not-both _ lost (never n))
 
-            from : length buffer < length (keptPositions g t) * widthOf Kept → CertificateTooLong (c .rules) t buffer
-            from more =
-                kept-too-long never (keptPositions g t) (rising-unique (keptPositions g t) (kept-rising valid g))
-                (λ p. kept-exactly valid g p .0) more
-        by (some n) e = rw (e, losses-length n) (to, from)
+            from : length buffer < length (w .positions) * widthOf Kept → CertificateTooLong (c .rules) t buffer
+            from more = kept-too-long never (w .positions) (rising-unique (w .positions) (w .rising)) (λ p. w .exactly p .0) more
+        by (some n) e = rw (e, losses-length w) (to, from)
           where
-            to : CertificateTooLong (c .rules) t buffer → length buffer < length (listed valid g) * widthOf Lost
-            to (kept-too-long never positions u h more) = absurd (not-both _ (rounds-least valid g n e .0 .lost) (never n))
-            to (lost-too-long _ lost positions u h more) =
-                outnumbered (listed valid g) (λ p. led-exactly valid g p .1) (widthOf Lost) (length buffer) positions u h more
+            has-rank : HasRank g t (t .start) n
+            has-rank = rounds-least valid g n e .0
 
-            from : length buffer < length (listed valid g) * widthOf Lost → CertificateTooLong (c .rules) t buffer
+            w : LossesWritten c t (certificateBy c t (some n))
+            w = losses-left valid c n has-rank
+
+            to : CertificateTooLong (c .rules) t buffer → length buffer < length (map placeOf (w .losses)) * widthOf Lost
+            to (kept-too-long never positions u h more) = absurd (not-both _ (has-rank .lost) (never n))
+            to (lost-too-long _ positions u h more) =
+                outnumbered (map placeOf (w .losses)) (λ p. w .exactly p .1) (widthOf Lost) (length buffer) positions u h more
+
+            from : length buffer < length (map placeOf (w .losses)) * widthOf Lost → CertificateTooLong (c .rules) t buffer
             from more =
-                lost-too-long n (rounds-least valid g n e .0 .lost) (listed valid g)
-                (rising-unique (listed valid g) (listed-computes valid g .rising))
-                (λ p. led-exactly valid g p .0) more
+                lost-too-long (n, has-rank .lost) (map placeOf (w .losses)) (rising-unique (map placeOf (w .losses)) (w .rising))
+                (λ p. w .exactly p .0) more

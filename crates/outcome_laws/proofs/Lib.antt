@@ -13,5 +13,6 @@ pub mod LeftBehind
 pub mod LeftFixed
 pub mod MetConditions
 pub mod CertificateLengths
+pub mod RecordCounts
 pub mod Compare
 pub mod OwnCertificate

@@ -6,7 +6,8 @@ use mathlib.Core.Logic.{_⊎_, inl, inr, ⊎-elim, _↔_, _≢_}
 use mathlib.Core.List.{List}
 use mathlib.Core.Option.{none, some}
 use native.Mathlib.Omega.{arith}
-use lib.ListN.{length, take}
+use lib.ListN.{length, take, drop}
+use lib.Seq.{take-at}
 use Rattle.fra.specs.Game.{lostWithin, NeverLost, HasRank}
 use Rattle.fra.specs.Reach.{Reached, reached, rounds}
 use Rattle.fra.specs.Valid.{Valid}
@@ -38,8 +39,8 @@ use Rattle.outcome_laws.proofs.Compare.{Says, refused-exactly, late-outcome}
 use Rattle.outcome_laws.proofs.LeftBehind.{table-left, kept-left, losses-left}
 use Rattle.outcome_laws.proofs.OwnCertificate.{own-kept, own-lost}
 use Rattle.numbers_laws.proofs.Agreement.{least-enough-iff-first-lost, never-enough-iff-never-lost}
-use Rattle.promises.specs.Promises.{returned, returnedByCheck, Gives}
-use Rattle.promises.proofs.Support.{compared-read, compared-unread, decided-read, written-part, checked-read, count-most, count-fits}
+use Rattle.promises.specs.Promises.{returned, certificateLeft, returnedByCheck, Gives}
+use Rattle.promises.proofs.Support.{compared-read, compared-unread, decided-read, checked-read, count-most, count-fits}
 use Rattle.promises.proofs.ReaderPromises.{not-read}
 use Rattle.promises.proofs.AnswerNumbers.{kind-fixes, refusal-number}
 
@@ -144,6 +145,13 @@ module _ (c : Contest) (kinds-differ : kindOf (c .kept) ≢ kindOf (c .lost)) wh
             ⊎-elim (λ (f, never, z). inl (e, number ∙ ap kindOf f)) (λ (f, lost). inr (inl (e, number ∙ ap kindOf f)))
             (d .says .start)
 
+    -- what stands at the start of the buffer
+    pub certificate-front : (written : List ℕ) → r .length ≡ length written → outcome .certificate ≡ thenRest written buffer
+        → certificateLeft c file table buffer ≡ written
+    unfolding thenRest
+    certificate-front written long left =
+        ap (take (r .length)) left ∙ take-at written (drop (length written) buffer) (r .length) (sym long)
+
     -- ── What a verdict leaves behind ──
 
     module _ (undisputed : r .refusal ≡ 0) where
@@ -229,14 +237,15 @@ module _ (c : Contest) (kinds-differ : kindOf (c .kept) ≢ kindOf (c .lost)) wh
       lost-rank e =
           rw (ap (λ (w : Values). w .rounds) (d .numbers)) (rounds-least valid (c .rules) (d .rounds) (lost-start e) .0)
 
-      pub own-accepted : returnedByCheck c file (take (r .length) (outcome .certificate))
+      pub own-accepted : returnedByCheck c file (certificateLeft c file table buffer)
           ≡ record { refusal = 0; verdict = r .verdict; positions = 0; rounds = r .rounds; length = 0 }
-      own-accepted = rw (d .numbers) (ap checkedValuesOf accepted)
+      own-accepted = ap checkedValuesOf accepted ∙ rw (d .numbers)
         where
-          accepted : check c file (take (d .size) (outcome .certificate)) ≡ Accepted (d .verdict) (d .rounds)
+          accepted : check c file (certificateLeft c file table buffer) ≡ Accepted (d .verdict) (d .rounds)
           accepted =
+              let (long, left) = leaves-a-certificate in
               checked-read c file _ (d .read)
-              ∙ ap (checkTask maxRegisters c t) (written-part c file table buffer (d .read) (d .says))
+              ∙ ap (checkTask maxRegisters c t) (certificate-front _ long left)
               ∙ ⊎-elim
               (λ (e, never, z). rw (never, e, z) (own-kept valid c kinds-differ never))
               (λ (e, lost). rw (lost, e) (own-lost valid c kinds-differ (count-fits (c .rules) file (d .read)) (d .rounds) lost))

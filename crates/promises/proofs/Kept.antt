@@ -33,6 +33,7 @@ use Rattle.promises.proofs.Support.{size-most}
 use Rattle.promises.proofs.ReaderPromises.{reader-refuses, reader-reads}
 use Rattle.promises.proofs.AnswerNumbers.{rejection-number}
 use Rattle.promises.proofs.ComparerPromises.{verdict-read, refuses-exactly, refusal-returns, early-leaves, late-leaves, answers, counts, leaves-the-table, kept-leaves, lost-leaves, kept-never, lost-rank, own-accepted, lost-least, kept-none, bounds}
+use Rattle.promises.proofs.BufferSizes.{buffer-sizes}
 use Rattle.promises.proofs.CheckerPromises.{shows, rejects-exactly, accepted, check-answers, shows-of-numbers}
 
 -- ── The functions ──
@@ -124,20 +125,14 @@ module _ (c : Contest) (kinds-differ : kindOf (c .kept) ≢ kindOf (c .lost)) wh
         accepted-shows-of-numbers = shows-of-numbers c kinds-differ;
       }
 
+  promises : Promises c
+  promises =
+      record { demand-1 = demand-1; demand-2 = demand-2; demand-3 = demand-3; buffer-sizes = buffer-sizes c kinds-differ }
+
 -- both sides attack
 pub equality-kept : Promises equality
-equality-kept =
-    record {
-      demand-1 = demand-1 equality (λ e. omega arith);
-      demand-2 = demand-2 equality (λ e. omega arith);
-      demand-3 = demand-3 equality (λ e. omega arith);
-    }
+equality-kept = promises equality (λ e. omega arith)
 
 -- only the left side attacks
 pub one-way-kept : Promises oneWay
-one-way-kept =
-    record {
-      demand-1 = demand-1 oneWay (λ e. omega arith);
-      demand-2 = demand-2 oneWay (λ e. omega arith);
-      demand-3 = demand-3 oneWay (λ e. omega arith);
-    }
+one-way-kept = promises oneWay (λ e. omega arith)

@@ -4,12 +4,11 @@ use mathlib.Core.Path.{_≡_, refl, sym, _∙_, ap}
 use mathlib.Core.Bool.{true}
 use mathlib.Core.List.{List}
 use native.Mathlib.Omega.{arith}
-use lib.ListN.{length, take, drop}
-use lib.Seq.{take-at}
+use lib.ListN.{length}
 use Rattle.fra.specs.Lists.{_∈_, Unique}
 use Rattle.fra.specs.Rules.{Rules}
 use Rattle.fra.specs.Position.{legal}
-use Rattle.fra.specs.Reach.{Reached, reached, rounds}
+use Rattle.fra.specs.Reach.{Reached, reached}
 use Rattle.fra.specs.Valid.{Valid}
 use Rattle.fra.specs.declared.Position.{Position}
 use Rattle.fra.specs.declared.Task.{Task}
@@ -19,8 +18,6 @@ use Rattle.task.specs.TaskFile.{readTask, taskOf, maxRegisters}
 use Rattle.task.specs.declared.Answer.{Answer}
 use Rattle.task.specs.declared.Answer.the-variants.{Read, Refused as Unread}
 use Rattle.outcome.specs.Verdicts.{Contest}
-use Rattle.outcome.specs.Bytes.{thenRest}
-use Rattle.outcome.specs.Certificate.{certificateBy}
 use Rattle.outcome.specs.Compare.{Outcome, compareTask, compareRead, compare}
 use Rattle.outcome.specs.Check.{checkTask, checkRead, check}
 use Rattle.outcome.specs.declared.Verdict.{Verdict}
@@ -60,18 +57,6 @@ module _ (c : Contest) (file table buffer : List ℕ) where
       by (Unread m) r =
           let d = ap (λ (o : Outcome). o .answer) (compared-unread m r) in
           clash (cc)
-
--- the part of the certificate buffer that a verdict's length names is the certificate
-pub written-part : (c : Contest) (file table buffer : List ℕ) {v : Verdict} {positions n size : ℕ}
-    → readTask file .answer ≡ Read
-    → Says c (taskOf file) table buffer v positions n size
-    → take size (compare c file table buffer .certificate)
-    ≡ certificateBy c (taskOf file) (rounds (c .rules) (taskOf file) (taskOf file .start))
-unfolding thenRest
-written-part c file table buffer {size = size} read says =
-    let written = certificateBy c (taskOf file) (rounds (c .rules) (taskOf file) (taskOf file .start)) in
-    ap (λ (o : Outcome). take size (o .certificate)) (compared-read c file table buffer read ∙ says .outcome)
-    ∙ take-at written (drop (length written) buffer) size (sym (says .bytes))
 
 -- ── The checker, from bytes to the task ──
 

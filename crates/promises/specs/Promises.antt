@@ -2,15 +2,16 @@
 -- stated for a game with its two verdicts (`Contest`), on what a call returns (its numbers) and on what
 -- it leaves in the bytes that it was lent. proofs/Kept.antt shows that they hold of `equality` (EQUAL and DIFFER) and of `oneWay`
 -- (FOLLOWS and FALLS SHORT), the comparisons that the library makes, and that the functions which people call end on every input
--- and return what is named here. `BothComparisons` at the end says how the two go together.
-use Prim.Native.Nat.{ℕ, _*_, _-_, _≤_, _<_}
+-- and return what is named here. `BufferSizes` says how much to lend them, and `BothComparisons` at the end how the two comparisons
+-- go together.
+use Prim.Native.Nat.{ℕ, _*_, _-_, _/_, _≤_, _<_}
 use mathlib.Core.Path.{_≡_}
-use mathlib.Core.Logic.{_⊎_, _↔_}
+use mathlib.Core.Logic.{_⊎_, _↔_, _≢_}
 use mathlib.Core.Bool.{true}
 use mathlib.Core.List.{List, _∷_}
 use lib.ListN.{length, take}
 use Rattle.fra.specs.Lists.{_∈_, Unique}
-use Rattle.fra.specs.Game.{lostWithin, NeverLost, Bisimulation}
+use Rattle.fra.specs.Game.{lostWithin, NeverLost, EverLost, Bisimulation}
 use Rattle.fra.specs.Reach.{Reached}
 use Rattle.fra.specs.Exchange.{exchanged}
 use Rattle.fra.specs.declared.Position.{Position}
@@ -35,6 +36,10 @@ use Rattle.numbers.specs.Numbers.{Setting, IsSetting, Opening, Choice, Reply, a
 -- the numbers that a comparison returns
 abbrev pub returned : Contest → List ℕ → List ℕ → List ℕ → Values
 returned c file table buffer = valuesOf (compare c file table buffer .answer)
+
+-- the certificate that it leaves: as many bytes as it returns, from the buffer's start
+abbrev pub certificateLeft : Contest → List ℕ → List ℕ → List ℕ → List ℕ
+certificateLeft c file table buffer = take (returned c file table buffer .length) (compare c file table buffer .certificate)
 
 -- the numbers that a check returns
 abbrev pub returnedByCheck : Contest → List ℕ → List ℕ → Values
@@ -129,7 +134,7 @@ pub record Demand2 (c : Contest) : Type 1 where
       ⊎ (v ≡ c .lost) × (lostWithin (c .rules) (taskOf file) n (taskOf file .start) ≡ true)
   -- The comparer's own certificate is accepted, with the comparer's verdict and rounds.
   pub own-certificate-accepted : (file table buffer : List ℕ) → returned c file table buffer .refusal ≡ 0
-      → returnedByCheck c file (take (returned c file table buffer .length) (compare c file table buffer .certificate))
+      → returnedByCheck c file (certificateLeft c file table buffer)
       ≡ record {
         refusal = 0;
         verdict = returned c file table buffer .verdict;
@@ -178,12 +183,36 @@ pub record Demand3 (c : Contest) : Type 0 where
       × (Gives (c .lost) (returnedByCheck c file (values certificate))
       → Enough (c .rules) (taskOf file) (returnedByCheck c file (values certificate) .rounds) s)
 
--- ── All three, for a game ──
+-- ── How much to lend (02, ticket 3) ──
+
+pub record BufferSizes (c : Contest) : Type 0 where
+  -- "a certificate a comparison writes, one-way too, is never longer than 17 bytes for each position reached,
+  pub length-at-most : (file table buffer : List ℕ)
+      → returned c file table buffer .length ≤ 17 * returned c file table buffer .positions
+  -- and 10 for EQUAL or FOLLOWS."
+  pub kept-length-at-most : (file table buffer : List ℕ) → Gives (c .kept) (returned c file table buffer)
+      → returned c file table buffer .length ≤ 10 * returned c file table buffer .positions
+  -- "Whoever lends 17 bytes per table entry never meets 12", whatever the file, and however many bytes the table has: an entry has
+  -- 13, and fewer at its end make none.
+  pub buffer-is-enough : (file table buffer : List ℕ) → 17 * (length table / 13) ≤ length buffer
+      → returned c file table buffer .refusal ≢ 12
+  -- Whoever lends as many entries as there can be positions (`positions-at-most`) never meets 11.
+  pub table-is-enough : (file table buffer : List ℕ) → (14 - taskOf file .start .history) * 3411712 ≤ length table / 13
+      → returned c file table buffer .refusal ≢ 11
+  -- "such a certificate's records of kind 17 or 19 never outnumber the reached positions that are lost": what stands in the buffer
+  -- is these records, and n positions are reached and lost, within some count of rounds each.
+  pub records-within-lost : (file table buffer : List ℕ) → Gives (c .lost) (returned c file table buffer)
+      → (w : LossesWritten c (taskOf file) (certificateLeft c file table buffer))
+      × (n : ℕ) × Counted (λ p. Reached (c .rules) (taskOf file) p × EverLost (c .rules) (taskOf file) p) n
+      × (length (w .losses) ≤ n)
+
+-- ── All of these, for a game ──
 
 pub record Promises (c : Contest) : Type 1 where
   pub demand-1 : Demand1 c
   pub demand-2 : Demand2 c
   pub demand-3 : Demand3 c
+  pub buffer-sizes : BufferSizes c
 
 -- ── Both comparisons of one task (02, ticket 1) ──
 

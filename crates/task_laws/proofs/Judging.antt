@@ -93,6 +93,19 @@ number-least edge-limit = omega arith
 number-least pair-rule = omega arith
 number-least history-rule = omega arith
 
+-- and 11 to 14 neither
+pub number-apart : (rule : Rule) → (number rule ≤ 10) ⊎ (15 ≤ number rule)
+unfolding number
+number-apart place = inl (omega arith)
+number-apart header-rule = inl (omega arith)
+number-apart state-rule = inl (omega arith)
+number-apart existence = inl (omega arith)
+number-apart register-rule = inl (omega arith)
+number-apart edge-order = inl (omega arith)
+number-apart edge-limit = inl (omega arith)
+number-apart pair-rule = inl (omega arith)
+number-apart history-rule = inr (omega arith)
+
 module _ (l : List Record) (x : Record) where
   -- one rule more is not broken
   pass : (rule : Rule) → (Breaks rule l x → ⊥) → Below (order rule) l x → Below (suc (order rule)) l x

@@ -9,7 +9,8 @@
 #include <stdio.h>
 #include <string.h>
 
-/* As much as `compare` lends. */
+/* As much as `compare` lends, whose buffer a long certificate outgrows; NULDOPA_MOST_CERTIFICATE_BYTES(sizeof table) would be
+ * enough for each. */
 enum { TASK_BYTES = 4096, ENTRIES = 4000, CERTIFICATE_BYTES = 64000 };
 
 static uint8_t task[TASK_BYTES + 1]; /* one more, so that a longer file shows */

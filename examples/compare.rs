@@ -13,7 +13,8 @@ use nuldopa::{records, Game, ENTRY_LENGTH};
 use std::process::ExitCode;
 use std::{env, fs};
 
-/// As much as `compare` lends.
+/// As much as `compare` lends, whose buffer a long certificate outgrows; `most_certificate_bytes` of the table's length would be
+/// enough for each.
 const TASK_BYTES: usize = 4096;
 const ENTRIES: usize = 4000;
 const CERTIFICATE_BYTES: usize = 64_000;

@@ -40,6 +40,13 @@ enum {
     NULDOPA_LOST_BYTES = 17     /* one of DIFFER or FALLS SHORT: kind, position, side, edge, case, rounds */
 };
 
+/* The most bytes that a certificate has beside a table of so many bytes: 17 for each entry, of which spare bytes at the table's
+ * end make none. A comparison of either game that is lent so many never meets NULDOPA_BUFFER_TOO_SMALL: that is proved
+ * (crates/promises/specs/Promises.antt, buffer-is-enough). Where the table's length is a constant, so is this; for the length of
+ * any table that there can be, PTRDIFF_MAX at most, a size_t holds it. */
+#define NULDOPA_MOST_CERTIFICATE_BYTES(table_length) \
+    ((size_t)(table_length) / NULDOPA_ENTRY_BYTES * NULDOPA_LOST_BYTES)
+
 /* The greatest history size, and the most positions that tasks reach. */
 enum {
     NULDOPA_MOST_SEEN = 13,                     /* 13 numbers or more */
@@ -99,10 +106,11 @@ struct nuldopa_answer {
  * table        where the comparison works. Each 13 bytes are an entry, spare bytes at the end make none. What it holds at
  *              entry does not matter. 13 * NULDOPA_MOST_POSITIONS_OF_A_SIZE bytes (44 MB) are enough for every task without
  *              a record of kind 5. Where it states the size n, sizes n to 13 can be reached, and 14 - n times as much is
- *              enough: for every task 13 * NULDOPA_MOST_POSITIONS bytes (621 MB). With less than 13 every task that is read
- *              meets 11
- * certificate  where the certificate goes. 17 bytes for each table entry are always enough; with less than 10 every task that
- *              has room in the table meets 12
+ *              enough: for every task 13 * NULDOPA_MOST_POSITIONS bytes (621 MB); who lends as much never meets 11
+ *              (table-is-enough). With less than 13 every task that is read meets 11
+ * certificate  where the certificate goes. NULDOPA_MOST_CERTIFICATE_BYTES(table_length) are always enough. The certificate has
+ *              at most 17 bytes for each position reached, at most 10 with EQUAL (length-at-most, kept-length-at-most); with
+ *              less than 10 every task that has room in the table meets 12
  *
  * A verdict (refusal 0): the table holds the positions reached, rising by their 9 bytes (left state, right state, partners
  * of left registers 1 to 6, history size), each followed by its rounds, 4 bytes, high byte first, FF FF FF FF if it is never

@@ -129,6 +129,8 @@ static void constants(void)
     EXPECT(NULDOPA_KEPT_BYTES == sizeof kept_certificate / 2 && sizeof kept_certificate == KEPT);
     EXPECT(NULDOPA_LOST_BYTES == sizeof lost_certificate && sizeof lost_certificate == LOST);
     EXPECT(NULDOPA_POSITION_BYTES == NULDOPA_KEPT_BYTES - 1);
+    EXPECT(NULDOPA_MOST_CERTIFICATE_BYTES(NULDOPA_ENTRY_BYTES - 1) == 0);
+    EXPECT(NULDOPA_MOST_CERTIFICATE_BYTES(PTRDIFF_MAX) / NULDOPA_LOST_BYTES == PTRDIFF_MAX / NULDOPA_ENTRY_BYTES);
     /* One more than the registers of both readers. */
     EXPECT(NULDOPA_MOST_SEEN == 2 * 6 + 1);
     /* 16 states a side, and as many matchings of 6 registers with 6; sizes from 0 on. */
@@ -182,6 +184,23 @@ static void too_little_lent(const struct game *game)
     EXPECT(all(table, 26, 0) && all(table + 26, 38, 165) && all(certificate, 64, 165));
     fill();
     EXPECT(refused(game->compare(equal_task, n, table, 0, certificate, 0), NULDOPA_TABLE_TOO_SMALL) && untouched());
+}
+
+/* All positions of this task, the sample further-3, are lost and listed: no certificate beside two entries is longer, without
+ * spare bytes and with as many as make no third. */
+static void most_lent(const struct game *game)
+{
+    static const uint8_t task[] = {1, 2, 1, 0, 2, 0, 3, 0, 3, 0, 1, 1, 1, 0,  /* left */
+                                   1, 2, 1, 0, 2, 0, 3, 0, 3, 0, 1, 1, 1, 0,  /* right */
+                                   4, 1, 2, 4, 2, 1, 15};
+    static uint8_t most[NULDOPA_MOST_CERTIFICATE_BYTES(TABLE)];
+    EXPECT(sizeof most == 2 * NULDOPA_LOST_BYTES);
+    for (size_t length = TABLE; length < TABLE + NULDOPA_ENTRY_BYTES; length += NULDOPA_ENTRY_BYTES - 1) {
+        EXPECT(NULDOPA_MOST_CERTIFICATE_BYTES(length) == sizeof most);
+        EXPECT(is(game->compare(task, sizeof task, table, length, most, sizeof most), 0, game->lost, 2, 2, sizeof most));
+        EXPECT(refused(game->compare(task, sizeof task, table, length, most, sizeof most - 1), NULDOPA_BUFFER_TOO_SMALL));
+    }
+    EXPECT(refused(game->compare(task, sizeof task, table, TABLE - 1, most, sizeof most), NULDOPA_TABLE_TOO_SMALL));
 }
 
 /* One state with 6 registers, none of them held, and 65 edges. Returns its length. */
@@ -258,6 +277,7 @@ static void calls(const struct game *game, const struct game *other)
     comparing(game);
     small_history(game);
     too_little_lent(game);
+    most_lent(game);
     refused_tasks(game);
     checking(game);
     other_kinds(game, other);

@@ -1,5 +1,5 @@
 //! The Rust wrapper against the reference on generated tasks, in both games.
-use nuldopa::{Acceptance, Game, Record, Report, Verdict};
+use nuldopa::{most_certificate_bytes, Acceptance, Game, Record, Refusal, Report, Verdict, ENTRY_LENGTH};
 use reference::compare::Solution;
 use reference::generate::{families::family, histories::stating, item};
 use reference::model::Task;
@@ -38,6 +38,22 @@ fn agrees((game, rules): (Game, Rules), bytes_of_task: &[u8], task: &Task) {
     assert_eq!(records.collect::<Vec<u8>>(), solution.certificate);
     let accepted = Acceptance { verdict: report.verdict, rounds: report.rounds };
     assert_eq!(game.check(bytes_of_task, &report.certificate), Ok(accepted));
+    records_within_entries(&report);
+    assert_eq!(length_with_less(game, bytes_of_task, report.positions(), 0), Ok(solution.certificate.len()));
+}
+
+/// The certificate's length, or the refusal, with as many entries as positions, and so many bytes less than are always enough.
+fn length_with_less(game: Game, task: &[u8], positions: usize, less: usize) -> Result<usize, Refusal> {
+    let mut table = vec![0; positions * ENTRY_LENGTH];
+    let mut certificate = vec![0; most_certificate_bytes(table.len()) - less];
+    game.compare(task, &mut table, &mut certificate).map(|found| found.length)
+}
+
+/// A certificate has no more records than there are positions that it can list.
+fn records_within_entries(report: &Report) {
+    let lost = report.entries().filter(|(_, rounds)| rounds.is_some()).count();
+    let listed = if report.verdict.keeps() { report.positions() - lost } else { lost };
+    assert!(report.records().count() <= listed);
 }
 
 /// What `compare` or `compare_one_way` prints, from a report.
@@ -95,4 +111,19 @@ fn growing_tables() {
 fn growing_histories() {
     let made = stating(family("dearest-equal", &[4]).expect("a family"), 8).expect("as many as its start states hold");
     GAMES.into_iter().for_each(|played| agrees(played, &task::write(&made), &made));
+}
+
+/// Where every position is lost and listed, a byte less than is always enough is too little.
+#[test]
+fn every_position_listed() {
+    for sizes in [[2, 1, 1], [9, 6, 3], [14, 6, 3]] {
+        let made = family("listed", &sizes).expect("a family");
+        let bytes = task::write(&made);
+        for (game, rules) in GAMES {
+            agrees((game, rules), &bytes, &made);
+            let positions = baseline::solve(rules, &made).entries.len();
+            assert_eq!(length_with_less(game, &bytes, positions, 0), Ok(positions * 17));
+            assert_eq!(length_with_less(game, &bytes, positions, 1), Err(Refusal::BufferTooSmall));
+        }
+    }
 }

@@ -226,6 +226,17 @@ static struct nuldopa_answer compared_by_other(const uint8_t *task, size_t task_
     return a;
 }
 
+/* The certificate with its last record once more, where there is room. */
+static struct nuldopa_answer with_a_record_more(struct nuldopa_answer a, uint8_t *certificate, size_t length)
+{
+    size_t bytes = record_bytes(a.verdict);
+    if (a.refusal != 0 || length - a.length < bytes)
+        return a;
+    memcpy(certificate + a.length, certificate + a.length - bytes, bytes);
+    a.length += bytes;
+    return a;
+}
+
 static struct nuldopa_answer faulty_compare(const uint8_t *task, size_t task_length, uint8_t *table, size_t table_length,
                                             uint8_t *certificate, size_t certificate_length)
 {
@@ -236,11 +247,14 @@ static struct nuldopa_answer faulty_compare(const uint8_t *task, size_t task_len
         return nuldopa_refused(NULDOPA_BAD_HISTORY);
     size_t taken_length = task_length;
     const uint8_t *taken = task_taken(task, &taken_length);
-    struct nuldopa_answer a = compare(taken, taken_length, table, table_length, certificate, certificate_length);
+    size_t used = certificate_length - (fault_is("a byte of the buffer not used") && certificate_length > 0);
+    struct nuldopa_answer a = compare(taken, taken_length, table, table_length, certificate, used);
     spoil_task((uint8_t *)(uintptr_t)task, task_length);
     spoil_all_sizes(a, task, task_length, table, certificate);
     if (fault_is("positions told apart by eight bytes"))
         merge_entries(&a, table);
+    if (fault_is("a record more"))
+        a = with_a_record_more(a, certificate, certificate_length);
     spoil_table(a, table, table_length);
     spoil_certificate(a, certificate, certificate_length);
     return altered(a);

@@ -19,7 +19,7 @@ enum {
     ROUNDS_AT = ATTACK_AT + 3,
     WHOLE_ENTRIES = 4000,
     WHOLE_TABLE = WHOLE_ENTRIES * NULDOPA_ENTRY_BYTES,
-    WHOLE_CERTIFICATE = WHOLE_ENTRIES * NULDOPA_LOST_BYTES
+    WHOLE_CERTIFICATE = NULDOPA_MOST_CERTIFICATE_BYTES(WHOLE_TABLE)
 };
 
 static const uint32_t never_lost = UINT32_MAX;
@@ -283,11 +283,21 @@ static void expect_records(const struct comparison *c)
     MUST(with_answer == !is_kept(c));
 }
 
+/* The most records that the certificate can have: one for each position of the table that is never lost, or for each that is. */
+static size_t most_records(const struct comparison *c)
+{
+    size_t count = 0;
+    for (size_t i = 0; i < c->answer.positions; i++)
+        count += (entry_rounds(c, i) == never_lost) == is_kept(c);
+    return count;
+}
+
 static void expect_certificate(const struct comparison *c)
 {
     MUST(c->answer.length <= c->certificate.length);
     MUST(c->answer.length >= record_bytes(c->answer.verdict));
     MUST(c->answer.length % record_bytes(c->answer.verdict) == 0);
+    MUST(c->answer.length / record_bytes(c->answer.verdict) <= most_records(c));
     MUST(all_are(c->certificate.bytes + c->answer.length, c->certificate.length - c->answer.length, c->fill));
     expect_records(c);
 }
@@ -322,6 +332,7 @@ static void compare(struct comparison *c, const struct input *input, enum edge e
     MUST(is_as_lent(&c->task, input->task));
     MUST(lent_guards_hold(&c->table));
     MUST(lent_guards_hold(&c->certificate));
+    MUST(c->answer.refusal != NULDOPA_BUFFER_TOO_SMALL || certificate < NULDOPA_MOST_CERTIFICATE_BYTES(table));
     expect_history(c->answer.refusal, &c->task);
     if (c->answer.refusal != 0)
         expect_refusal(c);
@@ -376,7 +387,6 @@ static struct nuldopa_answer checked(const struct game *game, const struct input
 static void compare_whole(struct comparison *whole, const struct input *input)
 {
     compare(whole, input, AT_END, WHOLE_TABLE, WHOLE_CERTIFICATE);
-    MUST(whole->answer.refusal != NULDOPA_BUFFER_TOO_SMALL);
 }
 
 /* The game's checker accepts what its comparer wrote, with the same verdict and rounds; cut by a byte it meets 13, and so it
@@ -417,7 +427,10 @@ static void compare_chosen(const struct comparison *whole, const struct input *i
 {
     size_t needed = whole->answer.positions * (size_t)NULDOPA_ENTRY_BYTES;
     size_t table = chosen_size(input->table_choice, needed);
-    size_t certificate = chosen_size(input->certificate_choice, whole->answer.length);
+    size_t certificate =
+        chosen_size(input->certificate_choice, input->certificate_choice < CHOICE_OF_ENOUGH
+                                                   ? whole->answer.length
+                                                   : NULDOPA_MOST_CERTIFICATE_BYTES(table));
     chosen.game = whole->game;
     compare(&chosen, input, input->edge, table, certificate);
     MUST(chosen.answer.refusal == refusal_with(whole, table, certificate));
@@ -516,7 +529,7 @@ static void open_comparison(struct comparison *c)
 {
     lent_open(&c->task, MOST_INPUT_BYTES);
     lent_open(&c->table, WHOLE_TABLE + NEAR_SIZES);
-    lent_open(&c->certificate, WHOLE_CERTIFICATE + NEAR_SIZES);
+    lent_open(&c->certificate, NULDOPA_MOST_CERTIFICATE_BYTES(WHOLE_TABLE + NEAR_SIZES) + NEAR_SIZES);
 }
 
 int LLVMFuzzerInitialize(int *count, char ***arguments);

@@ -1,6 +1,7 @@
-/* seeds FOLDER TASK...: writes inputs of the fuzzer into the folder, three for each task file: one for the comparers, its
- * lent sizes by turns exact, near what is needed and small; and for the checkers one with each comparer's certificate. Then
- * three more with a history size, 0 to 14 by turns, in the place of the file's own. */
+/* seeds FOLDER TASK...: writes inputs of the fuzzer into the folder, four for each task file: one for the comparers, its lent
+ * sizes by turns exact, near what is needed and small, and one whose buffer is just what is always enough beside an exact table;
+ * and for the checkers one with each comparer's certificate. Then four more with a history size, 0 to 14 by turns, in the place of
+ * the file's own. */
 #include "../../include/nuldopa.h"
 #include "input.h"
 #include "task.h"
@@ -10,7 +11,7 @@
 enum { ENTRIES = 4000, SIZES = NULDOPA_MOST_SEEN + 2, HISTORY_BYTES = 3 };
 
 static uint8_t task[MOST_INPUT_BYTES + HISTORY_BYTES], bytes[MOST_INPUT_BYTES];
-static uint8_t table[ENTRIES * NULDOPA_ENTRY_BYTES], certificate[ENTRIES * NULDOPA_LOST_BYTES];
+static uint8_t table[ENTRIES * NULDOPA_ENTRY_BYTES], certificate[NULDOPA_MOST_CERTIFICATE_BYTES(sizeof table)];
 
 static size_t read_file(const char *name)
 {
@@ -61,6 +62,9 @@ static void write_inputs(const char *folder, int number, size_t task_length)
     input.table_choice = choice(number);
     input.certificate_choice = choice(number / 3);
     write_input(folder, number, "compare", &input);
+    input.table_choice = CHOICE_OF_NEEDED + NEAR_BELOW;
+    input.certificate_choice = CHOICE_OF_ENOUGH + NEAR_BELOW;
+    write_input(folder, number, "compare-enough", &input);
     input.calls_checker = 1;
     write_checked(folder, number, "check", &input, nuldopa_compare);
     write_checked(folder, number, "check-one-way", &input, nuldopa_compare_one_way);

@@ -38,6 +38,14 @@ pub const ENTRY_LENGTH: usize = 13;
 pub const KEPT_LENGTH: usize = 10;
 pub const LOST_LENGTH: usize = 17;
 
+/// The most bytes that a certificate has beside a table of so many bytes: [`LOST_LENGTH`] for each entry, of which spare bytes at
+/// the table's end make none. A comparison of either game that is lent so many never meets [`Refusal::BufferTooSmall`]: that is
+/// proved (crates/promises/specs/Promises.antt, `buffer-is-enough`).
+pub const fn most_certificate_bytes(table_length: usize) -> usize {
+    // No slice is so long that this would be more than a usize holds.
+    (table_length / ENTRY_LENGTH).saturating_mul(LOST_LENGTH)
+}
+
 /// The greatest history size. It means so many numbers or more, and a task that states no size starts with it.
 pub const MOST_SEEN: u8 = 13;
 
@@ -69,14 +77,16 @@ impl Game {
     /// given.
     ///
     /// A table of [`MOST_POSITIONS_OF_A_SIZE`] entries of [`ENTRY_LENGTH`] bytes is enough for a task that states no history
-    /// size, one of [`MOST_POSITIONS`] entries for every task, and a certificate buffer of [`LOST_LENGTH`] bytes for each
-    /// entry.
+    /// size, one of [`MOST_POSITIONS`] entries for every task, and beside any table a certificate buffer of
+    /// [`most_certificate_bytes`]. Of these the certificate takes at most [`LOST_LENGTH`] for each position reached, and with
+    /// EQUAL or FOLLOWS at most [`KEPT_LENGTH`].
     pub fn compare(self, task: &[u8], table: &mut [u8], certificate: &mut [u8]) -> Result<Comparison, Refusal> {
         answers::comparison(boundary::compare(self, task, table, certificate))
     }
 
     /// Compares the two models of a task in a table that grows until it is large enough. Only refusals 1 to 10 and 15 are
-    /// given. Table and certificate buffer take at most 126 MB for a task that states no history size, and 1.5 GB for others.
+    /// given: a table that is large enough and [`most_certificate_bytes`] beside it leave no other. Both take at most 126 MB for
+    /// a task that states no history size, and 1.5 GB for others.
     pub fn compare_owned(self, task: &[u8]) -> Result<Report, Refusal> {
         report::compare_growing(self, task)
     }

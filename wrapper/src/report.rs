@@ -1,6 +1,6 @@
 //! A comparison in memory of its own.
-use super::{records, Game, Position, Records, Refusal, Verdict};
-use super::{ENTRY_LENGTH, LOST_LENGTH, MOST_POSITIONS, POSITION_LENGTH};
+use super::{most_certificate_bytes, records, Game, Position, Records, Refusal, Verdict};
+use super::{ENTRY_LENGTH, MOST_POSITIONS, POSITION_LENGTH};
 
 /// A verdict with its table and its certificate.
 #[derive(Clone, PartialEq, Eq, Debug)]
@@ -29,22 +29,22 @@ impl Report {
 
 const FIRST_ENTRIES: usize = 1024;
 
-/// In a table that grows until it is large enough.
+/// In a table that grows until it is large enough, which one of [`MOST_POSITIONS`] entries is (`table-is-enough` beside
+/// `buffer-is-enough`). The certificate buffer needs no trying: its length follows from the table's.
 pub fn compare_growing(game: Game, task: &[u8]) -> Result<Report, Refusal> {
     let mut entries = FIRST_ENTRIES;
     loop {
-        let outcome = compare_in(game, task, entries);
-        if outcome != Err(Refusal::TableTooSmall) || entries == MOST_POSITIONS {
-            return outcome;
+        match compare_in(game, task, entries) {
+            // Eight times as many: what a table that was too small took is then small beside the next one.
+            Err(Refusal::TableTooSmall) => entries = (entries * 8).min(MOST_POSITIONS),
+            outcome => return outcome,
         }
-        // Eight times as many: what a table that was too small took is then small beside the next one.
-        entries = (entries * 8).min(MOST_POSITIONS);
     }
 }
 
 fn compare_in(game: Game, task: &[u8], entries: usize) -> Result<Report, Refusal> {
     let mut table = vec![0; entries * ENTRY_LENGTH];
-    let mut certificate = vec![0; entries * LOST_LENGTH];
+    let mut certificate = vec![0; most_certificate_bytes(table.len())];
     let found = game.compare(task, &mut table, &mut certificate)?;
     table.truncate(found.positions * ENTRY_LENGTH);
     certificate.truncate(found.length);

@@ -144,6 +144,25 @@ fn lent_slices() {
     assert_eq!(compare(task, &mut [], &mut []), Err(Refusal::TableTooSmall));
 }
 
+/// All positions of this sample are lost and listed: no certificate beside two entries is longer, without spare bytes and with
+/// as many as make no third.
+#[test]
+fn most_lent() {
+    const MOST: usize = most_certificate_bytes(2 * ENTRY_LENGTH);
+    let task = sample!("further-3");
+    for game in Game::ALL {
+        for spare in [0, ENTRY_LENGTH - 1] {
+            let mut table = vec![1; 2 * ENTRY_LENGTH + spare];
+            assert_eq!(most_certificate_bytes(table.len()), MOST);
+            assert_eq!(game.compare(task, &mut table, &mut [1; MOST]).map(|found| found.length), Ok(MOST));
+            assert_eq!(game.compare(task, &mut table, &mut [1; MOST - 1]), Err(Refusal::BufferTooSmall));
+        }
+    }
+    assert_eq!((MOST, most_certificate_bytes(ENTRY_LENGTH - 1)), (2 * LOST_LENGTH, 0));
+    assert_eq!(most_certificate_bytes(isize::MAX as usize) / LOST_LENGTH, isize::MAX as usize / ENTRY_LENGTH);
+    assert_eq!(most_certificate_bytes(usize::MAX), usize::MAX);
+}
+
 #[test]
 fn refusals() {
     assert_eq!(compare_owned(&[]), Err(Refusal::TaskCut));

@@ -43,6 +43,12 @@ pub fn record_length(verdict: Verdict) -> usize {
     }
 }
 
+/// The length that no certificate for this verdict goes beyond where so many
+/// positions are reached: it has at most one record for each.
+pub fn greatest_length(verdict: Verdict, positions: usize) -> usize {
+    positions * record_length(verdict)
+}
+
 fn put_kept(bytes: &mut Vec<u8>, rules: Rules, position: &Position) {
     bytes.push(rules.kept.kind());
     bytes.extend_from_slice(&position.bytes());

@@ -10,6 +10,11 @@ use std::collections::BTreeMap;
 pub const ENTRY_LENGTH: usize = POSITION_LENGTH + 4;
 pub const NEVER_LOST: u32 = u32::MAX;
 
+/// The entries of a table of this many bytes; spare bytes make none.
+pub fn whole_entries(table: usize) -> usize {
+    table / ENTRY_LENGTH
+}
+
 /// What a call returns, next to the table and the certificate buffer. After
 /// a refusal everything but its number is zero.
 #[derive(Clone, Copy, PartialEq, Eq, Debug, Default)]
@@ -62,7 +67,7 @@ impl Solution {
     /// The answer for a lent table and buffer, which are filled.
     pub fn deliver(&self, table: &mut [u8], buffer: &mut [u8]) -> Answer {
         table.fill(0);
-        if self.entries.len() > table.len() / ENTRY_LENGTH {
+        if self.entries.len() > whole_entries(table.len()) {
             return Answer::refused(Refusal(11));
         }
         if self.certificate.len() > buffer.len() {

@@ -9,6 +9,7 @@ pub mod compare;
 pub mod frames;
 pub mod game;
 pub mod generate;
+pub mod lent;
 pub mod model;
 pub mod numbers;
 pub mod partner;

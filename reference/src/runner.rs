@@ -3,11 +3,12 @@
 
 use crate::baseline;
 use crate::check::check_by;
-use crate::compare::{solve, Solution, ENTRY_LENGTH};
+use crate::compare::{solve, Solution};
 use crate::frames::{reference_response, Request, Response};
 use crate::generate::proposals::{proposal, random_kind, ProposalKind};
 use crate::generate::sweeps::Sweep;
 use crate::generate::{item, item_of_kind, Item, ItemKind};
+use crate::lent::{breach, lend};
 use crate::model::{Task, Verdict};
 use crate::partner::{run_program, Adapter, Watch};
 use crate::random::Random;
@@ -182,7 +183,7 @@ impl Runner {
         if let Some((field, _)) = wanted {
             self.fault_done = alter(&mut random, &mut given, field);
         }
-        if given != expected {
+        if given != expected || breach_of(&given).is_some() {
             self.report(index, &question, &expected, &given);
         }
         !matches!(given, Reply::Failure(_)) || matches!(operation, Operation::Program(_))
@@ -201,7 +202,7 @@ impl Runner {
         self.tally.add_task_size(&item.bytes);
         match self.options.operation {
             Operation::Read => self.read_case(item.bytes),
-            Operation::Compare(rules) => self.compare_case(rules, random, item.bytes),
+            Operation::Compare(rules) => self.compare_case(rules, index, random, item.bytes),
             Operation::Check(rules) => self.check_case(rules, index, random, item.bytes),
             Operation::Program(rules) => self.program_case(rules, random, item.bytes),
         }
@@ -216,10 +217,10 @@ impl Runner {
         (Question::Frame(request), Reply::Frame(response))
     }
 
-    /// Sizes of table and buffer are chosen around what is needed.
     fn compare_case(
         &mut self,
         rules: Rules,
+        index: u64,
         random: &mut Random,
         task: Vec<u8>,
     ) -> (Question, Reply) {
@@ -230,12 +231,7 @@ impl Runner {
             self.count_beside(&parsed, &solution);
             solution
         });
-        let (entries, length) = needed_sizes(random, &solution);
-        let (table_word, table_size) = lent_size(random, entries, ENTRY_LENGTH);
-        let (buffer_word, buffer_size) = lent_size(random, length, 1);
-        let (table, buffer) = (random.bytes(table_size), random.bytes(buffer_size));
-        self.tally.add(format!("table:{table_word}"));
-        self.tally.add(format!("buffer:{buffer_word}"));
+        let (table, buffer) = self.lend(index, random, &solution);
         let request =
             Request::Compare { rules, task, table: table.clone(), buffer: buffer.clone() };
         let response = match &solution {
@@ -251,6 +247,25 @@ impl Runner {
             self.tally.add(format!("answer:{}", verdict_key(answer.verdict)));
         }
         (Question::Frame(request), Reply::Frame(response))
+    }
+
+    /// A table and a buffer with sizes around what is needed, in turn where
+    /// the task is given.
+    fn lend(
+        &mut self,
+        index: u64,
+        random: &mut Random,
+        solution: &Option<Solution>,
+    ) -> (Vec<u8>, Vec<u8>) {
+        let (entries, length) = needed_sizes(random, solution);
+        let turn = self.options.task.as_ref().map(|_| index);
+        let lent = lend(random, turn, entries, length);
+        self.tally.add(format!("table:{}", lent.table_word));
+        self.tally.add(format!("buffer:{}", lent.buffer_word));
+        if let Some(solution) = solution {
+            self.tally.add_limits(solution, lent.table, lent.buffer);
+        }
+        (random.bytes(lent.table), random.bytes(lent.buffer))
     }
 
     /// Not for a given task, which may be large.
@@ -350,6 +365,9 @@ impl Runner {
         let bytes = first_bytes(expected, given);
         println!("  reference: {}{}", bytes[0], describe(expected, given));
         println!("  partner:   {}{}", bytes[1], describe(given, expected));
+        if let Some(what) = breach_of(given) {
+            println!("  whatever is lent, there is never {what}");
+        }
         let stem = format!("mismatch-{}-{seed}-{index}", operation.name());
         match question {
             Question::Frame(request) => {
@@ -393,17 +411,14 @@ fn needed_sizes(random: &mut Random, solution: &Option<Solution>) -> (usize, usi
     }
 }
 
-/// A lent size near `count` units, and the name of the choice.
-fn lent_size(random: &mut Random, count: usize, unit: usize) -> (&'static str, usize) {
-    let exact = count * unit;
-    let less = exact.saturating_sub(unit);
-    match random.below(10) {
-        0..=2 => ("exact", exact),
-        3 => ("one-less", less),
-        4 if unit > 1 => ("one-less-with-spare", less + random.between(1, unit - 1)),
-        5 => ("zero", 0),
-        6 => ("larger", exact + random.between(ENTRY_LENGTH, 100)),
-        _ => ("spare", exact + random.between(1, ENTRY_LENGTH - 1)),
+/// What is wrong with an answer by itself: the same answer from the reference
+/// makes it no better.
+fn breach_of(reply: &Reply) -> Option<&'static str> {
+    match reply {
+        Reply::Frame(Response::Compare { answer, table, buffer, .. }) => {
+            breach(answer, table, buffer)
+        }
+        _ => None,
     }
 }
 

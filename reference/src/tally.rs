@@ -1,7 +1,9 @@
 //! Named counts, for the quota table and for the runner's `--require`.
 
-use crate::certificate::{listed_attack, listed_position, LOST_LENGTH};
-use crate::compare::Solution;
+use crate::certificate::{
+    greatest_length, listed_attack, listed_position, record_length, LOST_LENGTH,
+};
+use crate::compare::{whole_entries, Solution};
 use crate::game::{attacks, existing_attack, replies, Attack, Position, CASE_NEW};
 use crate::generate::histories::SizeClass;
 use crate::model::*;
@@ -53,6 +55,26 @@ impl Tally {
     /// How another game came out beside the two-way one.
     pub fn add_beside(&mut self, two_way: &Solution, other: &Solution) {
         self.add(format!("beside:{}", beside(two_way, other)));
+    }
+
+    /// Whether every position reached has its record, so that no certificate
+    /// for so many is longer; and if the table has entries for just these,
+    /// whether the buffer is just long enough or one byte too short.
+    pub fn add_limits(&mut self, solution: &Solution, table: usize, buffer: usize) {
+        let (positions, length) = (solution.entries.len(), solution.certificate.len());
+        if length != greatest_length(solution.verdict, positions) {
+            return;
+        }
+        let word = if solution.verdict.is_kept() { "kept" } else { "listed" };
+        self.add(format!("{word}:all"));
+        let limit = format!("limit-{}", record_length(solution.verdict));
+        let table_is_full = whole_entries(table) == positions;
+        if table_is_full && buffer == length {
+            self.add(format!("{limit}:met"));
+        }
+        if table_is_full && buffer + 1 == length {
+            self.add(format!("{limit}:one-less"));
+        }
     }
 
     pub fn add_task_size(&mut self, task: &[u8]) {

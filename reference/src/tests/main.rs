@@ -9,6 +9,7 @@ mod marked;
 mod one_way;
 mod reader;
 mod runner;
+mod sizes;
 mod whole;
 
 use std::panic::{catch_unwind, AssertUnwindSafe};
@@ -27,6 +28,7 @@ fn main() {
         whole::TESTS,
         games::TESTS,
         history::TESTS,
+        sizes::TESTS,
         generator::TESTS,
         runner::TESTS,
     ];

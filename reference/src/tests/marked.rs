@@ -93,8 +93,12 @@ pub fn refused(refusal: u32) -> Answer {
     Answer { refusal, ..Answer::default() }
 }
 
+pub fn task_1() -> Vec<u8> {
+    task_of(model_p(), model_p(), &[])
+}
+
 fn case_1() {
-    let (answer, table, buffer) = run(&task_of(model_p(), model_p(), &[]), 40, 22);
+    let (answer, table, buffer) = run(&task_1(), 40, 22);
     assert_eq!(answer, equal(2, 20));
     let entries = "00 00 00 00 00 00 00 00 0d ff ff ff ff  01 01 01 00 00 00 00 00 0d ff ff ff ff";
     assert_eq!(table, [hex(entries), vec![0; 14]].concat());
@@ -125,19 +129,34 @@ fn case_3() {
     assert_eq!(roomy(&task_of(model_p(), two, &[])), equal(2, 20));
 }
 
-fn case_4() {
+/// One state each with a known loop.
+fn loops(pairs: &[[u8; 2]]) -> Vec<u8> {
     let model = known_model(1, &[[0, 0, 0]]);
-    assert_eq!(roomy(&task_of(model.clone(), model, &[])), differ(1, 1, 17));
+    task_of(model.clone(), model, pairs)
+}
+
+pub fn task_4() -> Vec<u8> {
+    loops(&[])
+}
+
+fn case_4() {
+    assert_eq!(roomy(&task_4()), differ(1, 1, 17));
+}
+
+pub fn task_5() -> Vec<u8> {
+    loops(&[[1, 1]])
 }
 
 fn case_5() {
-    let model = known_model(1, &[[0, 0, 0]]);
-    assert_eq!(roomy(&task_of(model.clone(), model, &[[1, 1]])), equal(1, 10));
+    assert_eq!(roomy(&task_5()), equal(1, 10));
+}
+
+pub fn task_6() -> Vec<u8> {
+    task_of(hex("01 00 01 00 02 00 00 01"), hex("01 00 01 00 02 00 00 00"), &[])
 }
 
 fn case_6() {
-    let task = task_of(hex("01 00 01 00 02 00 00 01"), hex("01 00 01 00 02 00 00 00"), &[]);
-    let (answer, _, buffer) = run(&task, 13, 17);
+    let (answer, _, buffer) = run(&task_6(), 13, 17);
     assert_eq!(answer, differ(1, 0, 17));
     assert_eq!(buffer, hex("11 00 00 00 00 00 00 00 00 0d 00 00 00 00 00 00 00"));
 }
@@ -154,7 +173,7 @@ fn case_8() {
 }
 
 fn case_9() {
-    let task = task_of(model_p(), model_p(), &[]);
+    let task = task_1();
     let (answer, table, buffer) = run(&task, 25, 20);
     assert_eq!(answer, refused(11));
     assert_eq!((table, buffer), (vec![0; 25], vec![0xa5; 20]));
@@ -162,7 +181,7 @@ fn case_9() {
 }
 
 fn case_10() {
-    let task = task_of(model_p(), model_p(), &[]);
+    let task = task_1();
     let (answer, table, buffer) = run(&task, 26, 19);
     assert_eq!(answer, refused(12));
     assert_eq!((table, buffer), (vec![0; 26], vec![0xa5; 19]));

@@ -15,6 +15,8 @@ pub const TESTS: &[Test] = &[
     ("runner: one kind of proposed certificates", one_proposal),
     ("runner: an answer by the other game is reported", other_game),
     ("runner: a given task", given_task),
+    ("runner: a given task at the limit of its buffer", at_the_limit),
+    ("runner: an answer that no task can have is named", named_breaches),
     ("generator: a family with a stated history", stated_family),
     ("runner: every cut and every byte of a certificate", swept_certificate),
     ("runner: each altered answer is reported", faults),
@@ -59,7 +61,7 @@ fn assert_same(operation: &str, counts: &[&str]) {
     assert!(text.ends_with("SAME: 3000 cases, 0 mismatches, 0 counts too small\n"), "{text}");
 }
 
-const SIZES: [&str; 7] = [
+const SIZES: [&str; 15] = [
     "refusal:11:50",
     "refusal:12:50",
     "rounds:15+:10",
@@ -67,6 +69,14 @@ const SIZES: [&str; 7] = [
     "table:zero:50",
     "table:spare:50",
     "buffer:exact:50",
+    "buffer:17-an-entry:50",
+    "buffer:17-an-entry-less-one:50",
+    "listed:all:50",
+    "kept:all:50",
+    "limit-17:met:20",
+    "limit-17:one-less:20",
+    "limit-10:met:20",
+    "limit-10:one-less:20",
 ];
 
 fn same_answers() {
@@ -184,6 +194,44 @@ fn given_task() {
     let arguments = ["program", "--count", "1", "--task", &name, "--require", "refusal:12:1"];
     let (status, text) = runner(&arguments, &[&built("reference-compare")]);
     assert_eq!(status, Some(0), "{text}");
+}
+
+/// Every position of these tasks is listed. Whatever the seed, 15 cases have
+/// a verdict with just 17 bytes for each, and 12 with one byte less.
+fn at_the_limit() {
+    let plain = family_file(&["listed", "6", "4", "2"]);
+    let stated = family_file(&["listed", "9", "6", "3", "--history", "12"]);
+    let counts = ["refusal:0:5", "refusal:11:3", "refusal:12:3", "listed:all:15"];
+    let limits = ["limit-17:met:4", "limit-17:one-less:3"];
+    for operation in ["compare", "compare-one-way"] {
+        for (name, seed) in [(&plain, "1"), (&plain, "2"), (&stated, "1"), (&stated, "2")] {
+            let mut arguments = vec![operation, "--task", name, "--seed", seed, "--count", "15"];
+            counts.iter().chain(&limits).for_each(|key| arguments.extend(["--require", key]));
+            let (status, text) = runner(&arguments, &[&built("reference-adapter")]);
+            assert_eq!(status, Some(0), "{text}");
+        }
+    }
+    // A case is lent the same if it comes alone.
+    for (first, key) in [("3", "limit-17:met:1"), ("12", "limit-17:one-less:1")] {
+        let one = ["compare", "--task", &plain, "--first", first, "--count", "1", "--require", key];
+        let (status, text) = runner(&one, &[&built("reference-adapter")]);
+        assert_eq!(status, Some(0), "{text}");
+    }
+}
+
+/// The first case has a verdict and the longest certificate, the second one
+/// meets 11 with a table of no entry.
+fn named_breaches() {
+    let name = family_file(&["listed", "5", "3", "2"]);
+    for (fault, what) in [
+        ("length", "there is never a certificate too long for the positions reached"),
+        ("refusal:1", "there is never 12 with 17 bytes or more an entry"),
+    ] {
+        let arguments = ["compare", "--task", &name, "--count", "15", "--fault", fault];
+        let (status, text) = runner(&arguments, &[&built("reference-adapter")]);
+        assert_eq!(status, Some(1), "{text}");
+        assert!(text.contains(what) && text.contains(" 15 cases, 1 mismatches,"), "{text}");
+    }
 }
 
 fn swept_certificate() {

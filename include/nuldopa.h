@@ -40,10 +40,10 @@ enum {
     NULDOPA_LOST_BYTES = 17     /* one of DIFFER or FALLS SHORT: kind, position, side, edge, case, rounds */
 };
 
-/* The most bytes that a certificate has beside a table of so many bytes: 17 for each entry, of which spare bytes at the table's
- * end make none. A comparison of either game that is lent so many never meets NULDOPA_BUFFER_TOO_SMALL: that is proved
- * (crates/promises/specs/Promises.antt, buffer-is-enough). Where the table's length is a constant, so is this; for the length of
- * any table that there can be, PTRDIFF_MAX at most, a size_t holds it. */
+/* The most bytes that a certificate has beside a table of so many bytes: 17 for each entry, of which spare bytes at the
+ * table's end make none. A comparison of either game that is lent so many never meets NULDOPA_BUFFER_TOO_SMALL: that is
+ * proved (crates/promises/specs/Promises.antt, buffer-is-enough). Where the table's length is a constant, so is this; for the
+ * length of any table that there can be, PTRDIFF_MAX at most, a size_t holds it. */
 #define NULDOPA_MOST_CERTIFICATE_BYTES(table_length) \
     ((size_t)(table_length) / NULDOPA_ENTRY_BYTES * NULDOPA_LOST_BYTES)
 

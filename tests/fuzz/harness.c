@@ -283,7 +283,7 @@ static void expect_records(const struct comparison *c)
     MUST(with_answer == !is_kept(c));
 }
 
-/* The most records that the certificate can have: one for each position of the table that is never lost, or for each that is. */
+/* The most records that the certificate can have: one for each position that is never lost, or for each that is lost. */
 static size_t most_records(const struct comparison *c)
 {
     size_t count = 0;

@@ -10,8 +10,8 @@
  * Bit 1 of byte 0 says which edge of a page the buffers stand against: 0 with their end, 1 with their start.
  *
  * A choice says how many bytes are lent: below 8000 hexadecimal, its last 11 bits (0 and odd counts too); from there on,
- * what is needed and up to 16 bytes less or 15 more, by its last 5 bits; for the certificate buffer from C000 on, what is always
- * enough beside the table, and up to as many less or more. Numbers of two bytes have their high byte first. */
+ * what is needed and up to 16 bytes less or 15 more, by its last 5 bits; for the certificate buffer from C000 on, what is
+ * always enough beside the table, and up to as many less or more. Numbers of two bytes have their high byte first. */
 #ifndef INPUT_H
 #define INPUT_H
 

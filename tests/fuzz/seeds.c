@@ -1,7 +1,7 @@
-/* seeds FOLDER TASK...: writes inputs of the fuzzer into the folder, four for each task file: one for the comparers, its lent
- * sizes by turns exact, near what is needed and small, and one whose buffer is just what is always enough beside an exact table;
- * and for the checkers one with each comparer's certificate. Then four more with a history size, 0 to 14 by turns, in the place of
- * the file's own. */
+/* seeds FOLDER TASK...: writes inputs of the fuzzer into the folder, four for each task file: one for the comparers, its
+ * lent sizes by turns exact, near what is needed and small, and one whose buffer is just what is always enough beside an
+ * exact table; and for the checkers one with each comparer's certificate. Then four more with a history size, 0 to 14 by
+ * turns, in the place of the file's own. */
 #include "../../include/nuldopa.h"
 #include "input.h"
 #include "task.h"

@@ -38,9 +38,9 @@ pub const ENTRY_LENGTH: usize = 13;
 pub const KEPT_LENGTH: usize = 10;
 pub const LOST_LENGTH: usize = 17;
 
-/// The most bytes that a certificate has beside a table of so many bytes: [`LOST_LENGTH`] for each entry, of which spare bytes at
-/// the table's end make none. A comparison of either game that is lent so many never meets [`Refusal::BufferTooSmall`]: that is
-/// proved (crates/promises/specs/Promises.antt, `buffer-is-enough`).
+/// The most bytes that a certificate has beside a table of so many bytes: [`LOST_LENGTH`] for each entry, of which spare bytes
+/// at the table's end make none. A comparison of either game that is lent so many never meets [`Refusal::BufferTooSmall`]:
+/// that is proved (crates/promises/specs/Promises.antt, `buffer-is-enough`).
 pub const fn most_certificate_bytes(table_length: usize) -> usize {
     // No slice is so long that this would be more than a usize holds.
     (table_length / ENTRY_LENGTH).saturating_mul(LOST_LENGTH)
@@ -53,7 +53,7 @@ pub const MOST_SEEN: u8 = 13;
 /// so many entries is never too small for it.
 pub const MOST_POSITIONS_OF_A_SIZE: usize = 3_411_712;
 
-/// No task reaches more positions, so a table of so many entries is never too small.
+/// No task reaches more positions, so a table of so many entries is never too small (`table-is-enough` beside that theorem).
 pub const MOST_POSITIONS: usize = (MOST_SEEN as usize + 1) * MOST_POSITIONS_OF_A_SIZE;
 
 /// Which side attacks, and which end marks lose at once. The functions below are those of [`Game::Equality`].
@@ -85,8 +85,8 @@ impl Game {
     }
 
     /// Compares the two models of a task in a table that grows until it is large enough. Only refusals 1 to 10 and 15 are
-    /// given: a table that is large enough and [`most_certificate_bytes`] beside it leave no other. Both take at most 126 MB for
-    /// a task that states no history size, and 1.5 GB for others.
+    /// given: a table that is large enough and [`most_certificate_bytes`] beside it leave no other. Both take at most 126 MB
+    /// for a task that states no history size, and 1.5 GB for others.
     pub fn compare_owned(self, task: &[u8]) -> Result<Report, Refusal> {
         report::compare_growing(self, task)
     }

@@ -1,8 +1,8 @@
 -- The promises on how much to lend: how long a certificate is at most, and with how many entries and bytes 11 and 12 are never met.
 -- Assumes nothing.
 use Prim.Native.Nat.{ℕ, _*_, _-_, _/_, _≤_}
-use mathlib.Core.Path.{_≡_, refl, sym, ap, subst}
-use mathlib.Core.Logic.{_⊎_, inl, inr, ⊎-elim, _≢_}
+use mathlib.Core.Path.{_≡_, refl, sym, subst}
+use mathlib.Core.Logic.{inl, inr, ⊎-elim, _≢_}
 use mathlib.Core.List.{List}
 use native.Mathlib.Omega.{arith}
 use lib.ListN.{length, length-map}
@@ -20,7 +20,7 @@ use Rattle.outcome.specs.Listed.{Counted, LossesWritten}
 use Rattle.outcome.specs.Refusals.{ComparerRefuses}
 use Rattle.outcome_laws.proofs.CertificateLengths.{kept-length, losses-length}
 use Rattle.outcome_laws.proofs.RecordCounts.{LostReached, lost-counted, lost-few, kept-few, losses-few, never-too-long}
-use Rattle.promises.specs.Promises.{BufferSizes, returned, certificateLeft, Gives}
+use Rattle.promises.specs.Promises.{BufferSizes, returned, certificateLeft}
 use Rattle.promises.proofs.Support.{count-most}
 use Rattle.promises.proofs.ComparerPromises.{verdict-read, refuses-exactly, refusal-returns, answers, counts, kept-leaves, lost-leaves, certificate-front}
 

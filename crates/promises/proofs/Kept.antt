@@ -76,8 +76,10 @@ module _ (c : Contest) (kinds-differ : kindOf (c .kept) ≢ kindOf (c .lost)) wh
         late-refusal-leaves = late-leaves c kinds-differ;
         verdict-counts = counts c kinds-differ;
         verdict-leaves-the-table = leaves-the-table c kinds-differ;
-        kept-verdict-leaves-a-certificate = λ file table buffer gives. kept-leaves c kinds-differ file table buffer (gives .0) (gives .1);
-        lost-verdict-leaves-a-certificate = λ file table buffer gives. lost-leaves c kinds-differ file table buffer (gives .0) (gives .1);
+        kept-verdict-leaves-a-certificate =
+            λ file table buffer gives. kept-leaves c kinds-differ file table buffer (gives .0) (gives .1);
+        lost-verdict-leaves-a-certificate =
+            λ file table buffer gives. lost-leaves c kinds-differ file table buffer (gives .0) (gives .1);
         table-is-fixed = λ t one two. table-fixed;
         kept-certificate-is-fixed = λ t one two. kept-fixed;
         lost-certificate-is-fixed = λ t one two. losses-fixed;

@@ -53,7 +53,8 @@ pub const MOST_SEEN: u8 = 13;
 /// so many entries is never too small for it.
 pub const MOST_POSITIONS_OF_A_SIZE: usize = 3_411_712;
 
-/// No task reaches more positions, so a table of so many entries is never too small (`table-is-enough` beside that theorem).
+/// No task reaches more positions, so a table of so many entries is never too small: that is proved
+/// (crates/promises/specs/Promises.antt, `table-is-enough`).
 pub const MOST_POSITIONS: usize = (MOST_SEEN as usize + 1) * MOST_POSITIONS_OF_A_SIZE;
 
 /// Which side attacks, and which end marks lose at once. The functions below are those of [`Game::Equality`].

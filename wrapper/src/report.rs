@@ -29,8 +29,8 @@ impl Report {
 
 const FIRST_ENTRIES: usize = 1024;
 
-/// In a table that grows until it is large enough, which one of [`MOST_POSITIONS`] entries is (`table-is-enough` beside
-/// `buffer-is-enough`). The certificate buffer needs no trying: its length follows from the table's.
+/// In a table that grows until it is large enough, as one of [`MOST_POSITIONS`] entries is, so that this ends. The certificate
+/// buffer needs no trying: its length follows from the table's.
 pub fn compare_growing(game: Game, task: &[u8]) -> Result<Report, Refusal> {
     let mut entries = FIRST_ENTRIES;
     loop {

@@ -1,6 +1,6 @@
 -- How many records a certificate has, and so how large a buffer is always enough: that of a start which is never lost has no more
 -- than there are positions reached, that of a lost start no more than there are among them that are lost. For any contest and any
--- valid task. Assumes nothing.
+-- task. Assumes nothing.
 use Prim.Native.Nat.{ℕ, _*_, _/_, _≤_}
 use mathlib.Core.Path.{refl, subst}
 use mathlib.Core.Logic.{_↔_}
@@ -27,7 +27,9 @@ use Rattle.outcome.specs.Certificate.{placeOf}
 use Rattle.outcome.specs.Compare.{capacity}
 use Rattle.outcome.specs.Listed.{Counted, KeptWritten, LossesWritten}
 use Rattle.outcome.specs.Refusals.{TableTooSmall, CertificateTooLong, kept-too-long, lost-too-long}
-use Rattle.outcome_laws.proofs.WrittenLists.{N, reached-closed, led-reached}
+use Rattle.outcome_laws.proofs.WrittenLists.{led-is-reached, N, reached-closed}
+
+-- ── Counts ──
 
 -- no list without duplicates of positions with a property outnumbers them
 counted-most : {has : Position → Type 0} {n : ℕ} → Counted has n
@@ -41,13 +43,14 @@ counted-most k l u h =
 abbrev pub LostReached : Rules → Task → Position → Type 0
 LostReached g t p = Reached g t p × EverLost g t p
 
-module _ {r : ℕ} {t : Task} (valid : Valid r t) (c : Contest) where
-  abbrev g : Rules
-  g = c .rules
+-- no more are lost than are reached
+pub lost-few : (g : Rules) (t : Task) {lost n : ℕ} → Counted (LostReached g t) lost → Counted (Reached g t) n → lost ≤ n
+lost-few g t l k =
+    let b = counted-most k (l .positions) (l .unique) (λ p m. l .exactly p .0 m .0) in
+    omega (arith, l .number)
 
-  -- ── Counts ──
-
-  -- they are those lost within as many rounds as positions are reached
+module _ {r : ℕ} {t : Task} (valid : Valid r t) (g : Rules) where
+  -- those that are lost are lost within as many rounds as positions are reached
   pub lost-counted : (n : ℕ) × Counted (LostReached g t) n
   lost-counted = (
     length (keep within (reached g t)),
@@ -72,49 +75,42 @@ module _ {r : ℕ} {t : Task} (valid : Valid r t) (c : Contest) where
             keep-intro within m (lost-within-more g t k (N valid g) p most (rank .lost)),
       )
 
-  module _ {n : ℕ} where
-    -- no more are lost than are reached
-    pub lost-few : {lost : ℕ} → Counted (LostReached g t) lost → Counted (Reached g t) n → lost ≤ n
-    lost-few l k =
-        let b = counted-most k (l .positions) (l .unique) (λ p m. l .exactly p .0 m .0) in
-        omega (arith, l .number)
+-- ── Records ──
 
-    -- ── Records ──
+module _ {c : Contest} {t : Task} {n : ℕ} {written : List ℕ} where
+  pub kept-few : (w : KeptWritten c t written) → Counted (Reached (c .rules) t) n → length (w .positions) ≤ n
+  kept-few w k =
+      counted-most k (w .positions) (rising-unique (w .positions) (w .rising)) (λ p m. w .exactly p .0 m .0)
 
-    pub kept-few : {written : List ℕ} (w : KeptWritten c t written) → Counted (Reached g t) n → length (w .positions) ≤ n
-    kept-few w k =
-        counted-most k (w .positions) (rising-unique (w .positions) (w .rising)) (λ p m. w .exactly p .0 m .0)
-
-    -- a listed position is lost within the rounds of its record
-    pub losses-few : {written : List ℕ} (w : LossesWritten c t written) → Counted (LostReached g t) n
-        → length (map placeOf (w .losses)) ≤ n
-    losses-few w k = counted-most k (map placeOf (w .losses)) (rising-unique (map placeOf (w .losses)) (w .rising)) lost
-      where
-        lost : (p : Position) → p ∈ map placeOf (w .losses) → LostReached g t p
-        lost p m =
-            let (x, i, e) = Memᴰ·of-map placeOf (w .losses) m in (
-              reached-exactly valid g p .0 (led-reached valid g (w .exactly p .0 m)),
-              subst (EverLost g t) e (x .rounds, w .each x i .has-rank .lost),
-            )
-
-  -- ── The buffer ──
-
-  -- where no list of positions reached outnumbers the table's entries, of 13 bytes each, 17 bytes for each of them are enough
-  pub never-too-long : (table buffer : List ℕ) → 17 * (length table / 13) ≤ length buffer
-      → (TableTooSmall g t table → ⊥)
-      → CertificateTooLong g t buffer
-      → ⊥
-  unfolding capacity
-  never-too-long table buffer lent fits = by
+  -- a listed position is lost within the rounds of its record
+  pub losses-few : (w : LossesWritten c t written) → Counted (LostReached (c .rules) t) n
+      → length (map placeOf (w .losses)) ≤ n
+  losses-few w k = counted-most k (map placeOf (w .losses)) (rising-unique (map placeOf (w .losses)) (w .rising)) lost
     where
-      few : (l : List Position) → Unique l → ((p : Position) → p ∈ l → Reached g t p) → length l ≤ length table / 13
-      few l u h =
-          elim (decLe (length l) (length table / 13)) [
-            | yes d ↦ d
-            | no d ↦ absurd (fits (record { positions = l; unique = u; all-reached = h; more = omega arith }))
-          ]
+      lost : (p : Position) → p ∈ map placeOf (w .losses) → LostReached (c .rules) t p
+      lost p m =
+          let (x, i, e) = Memᴰ·of-map placeOf (w .losses) m in (
+            led-is-reached (w .exactly p .0 m),
+            subst (EverLost (c .rules) t) e (x .rounds, w .each x i .has-rank .lost),
+          )
 
-      by : CertificateTooLong g t buffer → ⊥
-      by (kept-too-long never l u h more) = let b = few l u (λ p m. h p m .0) in omega arith
-      by (lost-too-long lost l u h more) =
-          let b = few l u (λ p m. reached-exactly valid g p .0 (led-reached valid g (h p m))) in omega arith
+-- ── The buffer ──
+
+-- where no list of positions reached outnumbers the table's entries, of 13 bytes each, 17 bytes for each of them are enough
+pub never-too-long : {g : Rules} {t : Task} (table buffer : List ℕ) → 17 * (length table / 13) ≤ length buffer
+    → (TableTooSmall g t table → ⊥)
+    → CertificateTooLong g t buffer
+    → ⊥
+unfolding capacity
+never-too-long {g} {t} table buffer lent fits = by
+  where
+    few : (l : List Position) → Unique l → ((p : Position) → p ∈ l → Reached g t p) → length l ≤ length table / 13
+    few l u h =
+        elim (decLe (length l) (length table / 13)) [
+          | yes d ↦ d
+          | no d ↦ absurd (fits (record { positions = l; unique = u; all-reached = h; more = omega arith }))
+        ]
+
+    by : CertificateTooLong g t buffer → ⊥
+    by (kept-too-long never l u h more) = let b = few l u (λ p m. h p m .0) in omega arith
+    by (lost-too-long lost l u h more) = let b = few l u (λ p m. led-is-reached (h p m)) in omega arith

@@ -20,9 +20,9 @@ use Rattle.fra_laws.proofs.Lists.{keep-intro, keep-elim, map-undone}
 use Rattle.fra_laws.proofs.Order.{keep-rising}
 use Rattle.fra_laws.proofs.Closure.{Computes}
 use Rattle.fra_laws.proofs.LegalRounds.{after-legal}
-use Rattle.fra_laws.proofs.Reached.{enough-computes, reached-exactly, reached-start, reached-after, reached-rising}
+use Rattle.fra_laws.proofs.Reached.{successors-intro, enough-computes, reached-exactly, reached-start, reached-after, reached-rising}
 use Rattle.fra_laws.proofs.Ranks.{Closed, lost-ranked, rank-exactly, rank-never, rank-at-most-length}
-use Rattle.outcome.specs.Certificate.{Loss, placeOf, isNever, keptPositions, chosen, attackOf, attackLeads, lossStep, lossWith, lossOf, losses}
+use Rattle.outcome.specs.Certificate.{placeOf, isNever, keptPositions, chosen, attackOf, attackLeads, lossStep, lossWith, lossOf, losses}
 use Rattle.outcome.specs.Listed.{FirstAttack, Led, at-start, by-reply}
 use Rattle.outcome_laws.proofs.FirstAttacks.{first-exists, chosen-first}
 
@@ -35,6 +35,12 @@ pub loss-position : (p : Position) (n : Option ℕ) (o : Option Attack) → loss
 unfolding lossWith
 loss-position p n none = refl
 loss-position p n (some a) = refl
+
+-- what the first attacks lead to is reached
+pub led-is-reached : {g : Rules} {t : Task} {p : Position} → Led g t p → Reached g t p
+led-is-reached at-start = begin
+led-is-reached {g} {t} (by-reply {p = p} {a = a} {k = k} l h f m) =
+    onward (led-is-reached l) (successors-intro g t p a k (first-exists f) m)
 
 -- where the start is lost, so is all that the first attacks lead to
 pub led-ranked : {g : Rules} {t : Task} {n : ℕ} → HasRank g t (t .start) n → {p : Position} → Led g t p → (k : ℕ) × HasRank g t p k
@@ -140,8 +146,7 @@ module _ {r : ℕ} {t : Task} (valid : Valid r t) (g : Rules) where
       (after-legal valid g p (s .attack) (s .reply) h (first-exists (s .first)) (s .replies-to)))
 
   pub led-reached : {p : Position} → Led g t p → p ∈ reached g t
-  led-reached at-start = reached-start valid g
-  led-reached (by-reply {p = p} {a = a} {k = k} l h f m) = reached-after valid g p a k (led-reached l) (first-exists f) m
+  led-reached {p} l = reached-exactly valid g p .1 (led-is-reached l)
 
   -- they are what the first attacks lead to
   pub led-exactly : (p : Position) → (p ∈ listed) ↔ Led g t p
@@ -158,13 +163,10 @@ module _ {r : ℕ} {t : Task} (valid : Valid r t) (g : Rules) where
       from (by-reply {p = p} {n = n} {a = a} {k = k} l h f m) =
           onward (from l) (step-intro p n a k (rank-found p (suc n) (led-reached l) .1 h) f m)
 
-  -- and the records have these positions, which are reached
+  -- and the records have these positions
   pub losses-places : map placeOf (losses g t) ≡ listed
   unfolding losses lossOf
   losses-places = map-undone (lossOf g t N) placeOf listed (λ p m. loss-position p _ _)
-
-  pub loss-reached : (x : Loss) → x ∈ losses g t → x .position ∈ reached g t
-  loss-reached x m = led-reached (led-exactly (x .position) .0 (rw losses-places at (Memᴰ·map placeOf m)))
 
   -- a position reached that is lost, with its rank
   abbrev pub LostIn : Position → ℕ → Type 0

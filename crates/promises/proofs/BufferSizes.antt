@@ -47,16 +47,16 @@ module _ (c : Contest) (kinds-differ : kindOf (c .kept) ≢ kindOf (c .lost)) (f
     kept-at-most v =
         let (z, written, w, long, left) = kept-leaves c kinds-differ file table buffer given v in
         let size = kept-length read c refl refl w in
-        let few = kept-few read c w reached-count in
+        let few = kept-few w reached-count in
         omega arith
 
     lost-at-most : r .verdict ≡ kindOf (c .lost) → r .length ≤ 17 * r .positions
     lost-at-most v =
         let (written, w, long, left) = lost-leaves c kinds-differ file table buffer given v in
-        let (n, counted) = lost-counted read c in
+        let (n, counted) = lost-counted read (c .rules) in
         let size = losses-length read c refl refl w in
-        let few = losses-few read c w counted in
-        let most = lost-few read c counted reached-count in
+        let few = losses-few w counted in
+        let most = lost-few (c .rules) t counted reached-count in
         omega arith
 
     within-lost : r .verdict ≡ kindOf (c .lost)
@@ -66,8 +66,8 @@ module _ (c : Contest) (kinds-differ : kindOf (c .kept) ≢ kindOf (c .lost)) (f
     within-lost v =
         let (written, w, long, left) = lost-leaves c kinds-differ file table buffer given v in
         let whole = subst (LossesWritten c t) (sym (certificate-front c kinds-differ file table buffer written long left)) w in
-        let (n, counted) = lost-counted read c in
-        let few = losses-few read c whole counted in
+        let (n, counted) = lost-counted read (c .rules) in
+        let few = losses-few whole counted in
         (whole, n, counted, rw (← length-map (whole .losses) placeOf) few)
 
   at-most : r .length ≤ 17 * r .positions
@@ -86,7 +86,7 @@ module _ (c : Contest) (kinds-differ : kindOf (c .kept) ≢ kindOf (c .lost)) (f
       by : ComparerRefuses c file table buffer 12 → ⊥
       by (inl back) = ⊎-elim (λ few. omega arith) (λ many. omega arith) (turned-back-apart 12 file back)
       by (inr (read, inl (d, small))) = omega arith
-      by (inr (read, inr (d, fits, long))) = never-too-long (valid read) c table buffer lent fits long
+      by (inr (read, inr (d, fits, long))) = never-too-long table buffer lent fits long
 
   never-11 : (14 - t .start .history) * 3411712 ≤ length table / 13 → r .refusal ≢ 11
   unfolding ComparerRefuses capacity

@@ -1,5 +1,5 @@
 -- What the records of a certificate judge lost: positions that are not listed as kept, or that are listed as lost with fewer
--- rounds. So judged, a kept position holds unless an attack wins, and a loss is forced by an attack that is settled. Assumes
+-- rounds. So judged, a kept position holds unless an attack wins, and a loss is forced by an attack that wins. Assumes
 -- nothing.
 use Prim.Native.Nat.{ℕ}
 use mathlib.Core.Path.{_≡_, refl, sym, _∙_, ap}
@@ -20,16 +20,14 @@ use Rattle.listing.specs.Lookup.{placeOf}
 use Rattle.listing.specs.declared.Place.{Place}
 use Rattle.listing.specs.declared.Place.the-variants.{At, Nowhere}
 use Rattle.game_index.specs.Reading.{taskIn, rulesIn}
-use Rattle.game_replies.specs.Challenges.{challengeOf}
-use Rattle.game_replies.specs.Winner.{winner, isFound as isWon}
+use Rattle.game_replies.specs.Winner.{winsBy, winner, isFound as isWon}
 use Rattle.game_wins.specs.Judgement.{lostAt, judged, judgedAmong}
-use Rattle.game_wins.specs.Wins.{winOf, settles}
+use Rattle.game_wins.specs.Wins.{winOf}
 use Rattle.game_wins.specs.declared.Judge.{Judge}
 use Rattle.game_wins.specs.declared.Test.{Test}
 use Rattle.game_wins.specs.declared.Test.the-variants.{Sooner, Unlisted}
 use Rattle.game_wins.specs.declared.Win.the-variants.{By, Nobody}
 use Rattle.game_wins.proofs.AllPairs.{among-all}
-use Rattle.game_wins.proofs.SettledAttacks.{settles-wins}
 use Rattle.game_wins.proofs.WinAnswers.{winner-none, winner-some}
 use Rattle.checker_laws.specs.CertificateRecords.{recordsOf, keptIn, lossesIn}
 use Rattle.checker_laws.proofs.LookedUp.{isFound, soonerFound, lostIn, position-listed, loss-sooner}
@@ -86,11 +84,9 @@ module _ {b l pairs : List ℕ} where
         at (At i) = refl
         at Nowhere = refl
 
-    pub loss-settled : (x : Loss) (a : Attack)
+    pub loss-won : (x : Loss) (a : Attack)
         → forces (rulesIn b) (taskIn b) (lossesIn l) x (some a)
         ≡ (isAttack (rulesIn b) (taskIn b) (x .position) a
-        && settles (lostBy pairs Lost l (Sooner (x .rounds))) b (x .position) (challengeOf (taskIn b) (x .position) a))
-    loss-settled x a =
-        let lost = lostBy pairs Lost l (Sooner (x .rounds)) in
-        rw (settles-wins lost b (x .position) (h .index) a)
-        (forces-if-won (rulesIn b) (taskIn b) lost (lossesIn l) x (sooner-lost (x .rounds)) a)
+        && winsBy (taskIn b) (lostBy pairs Lost l (Sooner (x .rounds))) (x .position) a)
+    loss-won x a =
+        forces-if-won (rulesIn b) (taskIn b) (lostBy pairs Lost l (Sooner (x .rounds))) (lossesIn l) x (sooner-lost (x .rounds)) a

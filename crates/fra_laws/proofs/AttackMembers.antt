@@ -135,20 +135,27 @@ pub record ReplyAt (t : Task) (p : Position) (a : Attack) (k : ℕ) : Type 0 whe
   pub answering : answers (partner p (a .side) (registerOf (attackEdge t a .kind))) (a .case) (replyEdge t a k .kind) ≡ true
 
 module _ (t : Task) (p : Position) (a : Attack) (k : ℕ) where
-  pub is-reply : ReplyAt t p a k → k ∈ replies t p a
-  unfolding replies isReply
-  is-reply h =
-      let e = h .exists in
-      keep-intro (isReply t p a) (count-intro 0 (modelOf t (other (a .side)) .«edge_count») k (omega arith) (omega arith))
-      (rw (lt-ltb _ _ e, eq-eqb _ _ (h .starts), eq-eqb _ _ (h .tag)) (h .answering))
-
-  pub reply-at : k ∈ replies t p a → ReplyAt t p a k
-  unfolding replies isReply
-  reply-at m =
-      let h = keep-elim (isReply t p a) k (count 0 (modelOf t (other (a .side)) .«edge_count»)) m .1 in
+  pub reply-facts : isReply t p a k ≡ true → ReplyAt t p a k
+  unfolding isReply
+  reply-facts h =
       record {
         exists = ltb-true k (modelOf t (other (a .side)) .«edge_count») (search (and-left, and-right));
         starts = eqb-true (replyEdge t a k .from) (stateOf p (other (a .side))) (search (and-left, and-right));
         tag = eqb-true (replyEdge t a k .tag) (attackEdge t a .tag) (search (and-left, and-right));
         answering = search (and-left, and-right);
       }
+
+  reply-test : ReplyAt t p a k → isReply t p a k ≡ true
+  unfolding isReply
+  reply-test h = rw (lt-ltb _ _ (h .exists), eq-eqb _ _ (h .starts), eq-eqb _ _ (h .tag)) (h .answering)
+
+  pub is-reply : ReplyAt t p a k → k ∈ replies t p a
+  unfolding replies
+  is-reply h =
+      let e = h .exists in
+      keep-intro (isReply t p a) (count-intro 0 (modelOf t (other (a .side)) .«edge_count») k (omega arith) (omega arith))
+      (reply-test h)
+
+  pub reply-at : k ∈ replies t p a → ReplyAt t p a k
+  unfolding replies
+  reply-at m = reply-facts (keep-elim (isReply t p a) k (count 0 (modelOf t (other (a .side)) .«edge_count»)) m .1)

@@ -74,6 +74,10 @@ module _ (b : List ℕ) (s : Side) where
   unfolding edgeOf
   no-edge k h = List·getD-eq-default (modelIn b s .edges) noEdge {n = k} (omega (arith, sized-in .edges))
 
+-- there is no more than a place for each
+pub few-edges : {b : List ℕ} → Index b → (s : Side) → modelOf (taskIn b) s .«edge_count» ≤ edgePlaces
+few-edges {b} h s = rw (model-in b s) (omega (arith, index-model h s .valid .edge-places, sized-in b s .edges))
+
 -- ── The game ──
 
 -- the left side attacks in every game

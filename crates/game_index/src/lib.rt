@@ -13,6 +13,7 @@ ghost use mathlib.Core.Path.{_≡_};
 ghost use Rattle.fra.specs.Model.{setOf, markOf, edgeOf};
 ghost use Rattle.fra.specs.Position.{hasRoom};
 ghost use Rattle.fra.specs.Game.{lostAtOnce};
+ghost use Rattle.game_moves.specs.AfterRound.{targetOf};
 ghost use Rattle.game_index.specs.Layout.{codes, sideWidth};
 ghost use Rattle.game_index.specs.Reading.{sideByte, modelIn, startIn, taskIn, gameIn, rulesIn};
 ghost use Rattle.game_index.specs.Ranges.{firstEdge, stateRange, tagRange};
@@ -116,6 +117,18 @@ pub fn has_room(index: &[u8; layout::SIZE], p: Position) -> bool
     rounds::has_room(p, left, right)
 }
 
+// What the edge with this number takes, or what stands past the edges.
+pub fn kind_at(index: &[u8; layout::SIZE], side: Side, k: u8) -> EdgeKind
+    ensures { λ r. ⌜ r ≡ edgeOf (modelIn (now (index .entry)) side) k .kind ⌝ }
+{
+    if Model::EDGES <= k {
+        return EdgeKind::Known(0);
+    }
+    let at = layout::EDGES + layout::EDGE * (k as usize);
+    let number = byte_of(index, side, at + layout::KIND);
+    EdgeKind::of(number, byte_of(index, side, at + layout::REGISTER))
+}
+
 // The edge with this number, or what stands past the edges.
 pub fn edge_at(index: &[u8; layout::SIZE], side: Side, k: u8) -> Edge
     ensures { λ r. ⌜ r ≡ edgeOf (modelIn (now (index .entry)) side) k ⌝ }
@@ -124,8 +137,7 @@ pub fn edge_at(index: &[u8; layout::SIZE], side: Side, k: u8) -> Edge
         return Model::NO_EDGE;
     }
     let at = layout::EDGES + layout::EDGE * (k as usize);
-    let number = byte_of(index, side, at + layout::KIND);
-    let kind = EdgeKind::of(number, byte_of(index, side, at + layout::REGISTER));
+    let kind = kind_at(index, side, k);
     Edge {
         from: byte_of(index, side, at),
         tag: byte_of(index, side, at + layout::TAG),
@@ -162,34 +174,34 @@ pub fn lost_at_once(index: &[u8; layout::SIZE], p: Position) -> bool
 
 // ── What follows from the task and is written beside it ──
 
+// Where the edge with this number leads.
+pub fn target_at(index: &[u8; layout::SIZE], side: Side, k: u8) -> Target
+    requires { ⌜ Index (now index) ⌝ }
+    ensures { λ r. ⌜ r ≡ targetOf (modelIn (now (index .entry)) side) (edgeOf (modelIn (now (index .entry)) side) k) ⌝ }
+{
+    if Model::EDGES <= k {
+        return Target {
+            register: 0,
+            state: 0,
+            set: set_of(index, side, 0),
+        };
+    }
+    let at = layout::EDGES + layout::EDGE * (k as usize);
+    Target {
+        register: byte_of(index, side, at + layout::REGISTER),
+        state: byte_of(index, side, at + layout::TO),
+        set: byte_of(index, side, at + layout::TO_SET),
+    }
+}
+
 // What the edge with this number takes, and where it leads.
 pub fn transition_at(index: &[u8; layout::SIZE], side: Side, k: u8) -> Transition
     requires { ⌜ Index (now index) ⌝ }
     ensures { λ r. ⌜ r ≡ transitionOf (modelIn (now (index .entry)) side) k ⌝ }
 {
-    if Model::EDGES <= k {
-        let target = Target {
-            register: 0,
-            state: 0,
-            set: set_of(index, side, 0),
-        };
-        return Transition {
-            kind: EdgeKind::Known(0),
-            target,
-        };
-    }
-    let at = layout::EDGES + layout::EDGE * (k as usize);
-    let number = byte_of(index, side, at + layout::KIND);
-    let register = byte_of(index, side, at + layout::REGISTER);
-    let target = Target {
-        register,
-        state: byte_of(index, side, at + layout::TO),
-        set: byte_of(index, side, at + layout::TO_SET),
-    };
-    Transition {
-        kind: EdgeKind::of(number, register),
-        target,
-    }
+    let kind = kind_at(index, side, k);
+    let target = target_at(index, side, k);
+    Transition { kind, target }
 }
 
 // The first edge whose code is not below this one.

@@ -1,55 +1,86 @@
--- The replies that a search finds to the challenge of an attack are the game's, and lead where the game says. Assumes nothing.
-use Prim.Native.Nat.{ℕ}
-use mathlib.Core.Path.{_≡_, refl, _∙_}
+-- The replies to an attack among the edges of its challenge: all of them stand in its range, there the kind alone decides, and they
+-- lead where the challenge says. Assumes nothing.
+use Prim.Native.Nat.{ℕ, _-_, _≤_, _<_}
+use mathlib.Core.Path.{_≡_, refl, sym}
+use mathlib.Core.Bool.{true, false}
+use mathlib.Core.List.{List}
 use native.Mathlib.Omega.{arith}
 use lib.ListN.{length}
-use borrow.Author.Tests.{lt-ltb}
-use Rattle.fra.specs.Lists.{count}
+use borrow.Author.Tests.{lt-ltb, eq-eqb}
 use Rattle.fra.specs.Model.{edgeOf}
 use Rattle.fra.specs.Rules.{other, leftOf, rightOf, modelOf}
 use Rattle.fra.specs.Position.{stateOf}
-use Rattle.fra.specs.Game.{attackEdge, replyEdge, isReply, replies, sizeAfter, moved, after}
+use Rattle.fra.specs.Game.{attackEdge, answers, replyEdge, isReply, replies, sizeAfter, moved, after}
 use Rattle.fra.specs.declared.Edge.{Edge}
-use Rattle.fra.specs.declared.Model.{Model}
 use Rattle.fra.specs.declared.Position.{Position}
 use Rattle.fra.specs.declared.Task.{Task}
 use Rattle.fra.specs.declared.Side.{Side}
 use Rattle.fra.specs.declared.Side.the-variants.{Left, Right}
 use Rattle.fra.specs.declared.Attack.{Attack}
-use Rattle.fra_laws.proofs.Lists.{count-elim}
-use Rattle.fra_laws.proofs.KeptLists.{keep-same, keep-keep}
+use Rattle.fra_laws.proofs.Tests.{fails-unless}
+use Rattle.fra_laws.proofs.Least.{keep-skip}
+use Rattle.fra_laws.proofs.AttackMembers.{reply-facts}
 use Rattle.game_moves.specs.AfterRound.{targetOf, movedTo}
-use Rattle.game_index.specs.Ranges.{taggedOf, within}
+use Rattle.game_index.specs.Reading.{taskIn}
+use Rattle.game_index.specs.Writing.{Index}
+use Rattle.game_index.proofs.Reading.{model-in, index-model, sized-in}
+use Rattle.game_index.proofs.EdgeRanges.{tag-inside, tag-range-edge}
 use Rattle.game_replies.specs.Challenges.{challengeOf, afterReply}
-use Rattle.game_replies.specs.ReplySearch.{repliesFrom}
+use Rattle.game_replies.specs.ReplySearch.{replier, repliesFrom}
 use Rattle.game_replies.specs.declared.Challenge.{Challenge}
 
-module _ (t : Task) (p : Position) (a : Attack) where
-  -- the model of the side that replies
-  abbrev pub replier : Model
-  replier = modelOf t (other (a .side))
+-- a reply leads where its target says
+pub after-is : (t : Task) (p : Position) (a : Attack) (k : ℕ)
+    → afterReply (challengeOf t p a) p (targetOf (replier t a) (edgeOf (replier t a) k)) ≡ after t p a k
+unfolding after afterReply moved movedTo
+after-is t p a k = step (sizeAfter (length (p .partners)) (a .case) (p .history)) (a .side) (attackEdge t a) (replyEdge t a k)
+  where
+    step : (size : ℕ) (s : Side) (own others : Edge)
+        → movedTo p size (leftOf s (targetOf (modelOf t s) own) (targetOf (modelOf t (other s)) others))
+        (rightOf s (targetOf (modelOf t s) own) (targetOf (modelOf t (other s)) others))
+        ≡ moved t p size (leftOf s own others) (rightOf s own others)
+    step size Left own others = refl
+    step size Right own others = refl
 
-  abbrev pub asked : Challenge
+module _ {b : List ℕ} (h : Index b) (p : Position) (a : Attack) where
+  abbrev t : Task
+  t = taskIn b
+
+  abbrev away : Side
+  away = other (a .side)
+
+  abbrev asked : Challenge
   asked = challengeOf t p a
 
-  -- those from the range's first edge on are the replies, if the range is that of the state's edges of the tag
-  pub all-replies : within (asked .edges) ≡ taggedOf replier (stateOf p (other (a .side))) (attackEdge t a .tag)
-      → repliesFrom replier asked (asked .edges .first) ≡ replies t p a
-  unfolding repliesFrom taggedOf replies isReply
-  all-replies e =
-      rw e
-      (keep-keep _ _ (count 0 (replier .«edge_count»))
-      ∙ keep-same _ _ (count 0 (replier .«edge_count»))
-      (λ k m. rw (lt-ltb k (replier .«edge_count») (omega (arith, count-elim 0 (replier .«edge_count») k m .1)))))
+  reply-inside : (k : ℕ) → isReply t p a k ≡ true → (asked .edges .first ≤ k) × (k < asked .edges .end)
+  reply-inside k e =
+      let r = reply-facts t p a k e in
+      rw (model-in b away)
+      (tag-inside (index-model h away) (sized-in b away) (stateOf p away) (attackEdge t a .tag) k
+      (rw (← model-in b away) (record { exists = r .exists; starts = r .starts; tagged = r .tag })))
 
-  -- a reply leads where its target says
-  pub after-is : (k : ℕ) → afterReply asked p (targetOf replier (edgeOf replier k)) ≡ after t p a k
-  unfolding after afterReply moved movedTo
-  after-is k = step (sizeAfter (length (p .partners)) (a .case) (p .history)) (a .side) (attackEdge t a) (replyEdge t a k)
-    where
-      step : (size : ℕ) (s : Side) (own others : Edge)
-          → movedTo p size (leftOf s (targetOf (modelOf t s) own) (targetOf (modelOf t (other s)) others))
-          (rightOf s (targetOf (modelOf t s) own) (targetOf (modelOf t (other s)) others))
-          ≡ moved t p size (leftOf s own others) (rightOf s own others)
-      step size Left own others = refl
-      step size Right own others = refl
+  -- edges before the range and past it are no replies
+  pub none-before : (k : ℕ) → k < asked .edges .first → isReply t p a k ≡ false
+  none-before k c = fails-unless (isReply t p a k) (λ e. omega (arith, reply-inside k e .0))
+
+  pub none-past : (k : ℕ) → asked .edges .end ≤ k → isReply t p a k ≡ false
+  none-past k c = fails-unless (isReply t p a k) (λ e. omega (arith, reply-inside k e .1))
+
+  -- an edge of the range is a reply if its kind answers
+  pub by-kind : (k : ℕ) → asked .edges .first ≤ k → k < asked .edges .end
+      → isReply t p a k ≡ answers (asked .partner) (a .case) (edgeOf (replier t a) k .kind)
+  unfolding isReply
+  by-kind k i c =
+      let edge = rw (← model-in b away) at
+      (tag-range-edge (index-model h away) (sized-in b away) (stateOf p away) (attackEdge t a .tag) k (rw (← model-in b away) i)
+      (rw (← model-in b away) c)) in
+      rw (lt-ltb _ _ (edge .exists), eq-eqb _ _ (edge .starts), eq-eqb _ _ (edge .tagged))
+
+  -- those from the range's first edge on are all
+  pub all-replies : repliesFrom t p a (asked .edges .first) ≡ replies t p a
+  unfolding repliesFrom replies
+  all-replies =
+      let whole : replier t a .«edge_count» - 0 ≡ replier t a .«edge_count» = omega arith in
+      sym
+      (rw whole at
+      (keep-skip (isReply t p a) 0 (asked .edges .first) (replier t a .«edge_count») (omega arith) (λ k i c. none-before k c)))

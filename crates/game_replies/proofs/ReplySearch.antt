@@ -1,4 +1,4 @@
--- The search for replies, from one edge on: what it finds is the first of those that are left. Assumes nothing.
+-- The search for replies, from one edge on: what it finds is the first of those that are left. For any task. Assumes nothing.
 use Prim.Native.Nat.{ℕ, _+_, _-_, _≤_, _<_}
 use mathlib.Core.Path.{_≡_, refl, sym, _∙_}
 use mathlib.Core.Bool.{true, false}
@@ -6,56 +6,68 @@ use mathlib.Core.List.{[], _∷_}
 use mathlib.Core.Option.{Option, none, some}
 use native.Mathlib.Numerals.{add-one}
 use native.Mathlib.Omega.{arith}
+use native.Mathlib.Decide.{decLt}
 use Rattle.fra.specs.Lists.{least}
 use Rattle.fra.specs.Model.{edgeOf}
-use Rattle.fra.specs.declared.Model.{Model}
+use Rattle.fra.specs.Game.{isReply}
+use Rattle.fra.specs.declared.Position.{Position}
+use Rattle.fra.specs.declared.Task.{Task}
+use Rattle.fra.specs.declared.Attack.{Attack}
 use Rattle.fra_laws.proofs.Tests.{clash}
-use Rattle.fra_laws.proofs.Least.{least-here, least-later, least-end, keep-none, keep-some}
+use Rattle.fra_laws.proofs.Least.{least-here, least-later, least-end, least-fails, keep-none, keep-some}
+use Rattle.fra_laws.proofs.AttackMembers.{reply-facts}
 use Rattle.game_moves.specs.AfterRound.{targetOf}
 use Rattle.game_moves.specs.declared.rounds.Target.{Target}
-use Rattle.game_replies.specs.ReplySearch.{answersAt, repliesFrom, replyAnswer, replyFrom}
-use Rattle.game_replies.specs.declared.Challenge.{Challenge}
+use Rattle.game_replies.specs.ReplySearch.{replier, repliesFrom, replyAnswer, replyFrom}
 use Rattle.game_replies.specs.declared.Reply.{Reply}
 use Rattle.game_replies.specs.declared.Reply.the-variants.{To, Missing}
 
-module _ (m : Model) (c : Challenge) (k : ℕ) where
+module _ (t : Task) (p : Position) (a : Attack) (k : ℕ) where
+  abbrev count : ℕ
+  count = replier t a .«edge_count»
+
   -- ── One edge after another ──
 
-  pub reply-here : k < c .edges .end → answersAt m c k ≡ true → replyFrom m c k ≡ To (targetOf m (edgeOf m k)) k
+  pub reply-here : isReply t p a k ≡ true → replyFrom t p a k ≡ To (targetOf (replier t a) (edgeOf (replier t a) k)) k
   unfolding replyFrom
-  reply-here h e = rw (least-here (answersAt m c) k (c .edges .end) h e)
+  reply-here e = rw (least-here (isReply t p a) k count (reply-facts t p a k e .exists) e)
 
-  pub reply-later : k < c .edges .end → answersAt m c k ≡ false → replyFrom m c k ≡ replyFrom m c (k + 1)
+  pub reply-later : isReply t p a k ≡ false → replyFrom t p a k ≡ replyFrom t p a (k + 1)
   unfolding replyFrom
-  reply-later h e = rw (least-later (answersAt m c) k (c .edges .end) h e)
+  reply-later e = step (decLt k count)
+    where
+      step : Dec (k < count) → replyFrom t p a k ≡ replyFrom t p a (k + 1)
+      step (yes h) = rw (least-later (isReply t p a) k count h e)
+      step (no h) =
+          rw (least-end (isReply t p a) k count (omega arith), least-end (isReply t p a) (k + 1) count (omega arith))
 
-  pub reply-none : c .edges .end ≤ k → replyFrom m c k ≡ Missing
+  pub reply-none : ((j : ℕ) → k ≤ j → isReply t p a j ≡ false) → replyFrom t p a k ≡ Missing
   unfolding replyFrom
-  reply-none h = rw (least-end (answersAt m c) k (c .edges .end) h)
+  reply-none h = rw (least-fails (isReply t p a) k count h)
 
   -- ── What was found ──
 
   abbrev found : Option ℕ
-  found = least (answersAt m c) k (c .edges .end - k)
+  found = least (isReply t p a) k (count - k)
 
   -- edge number j is the first reply from number k on, and leads to x
   pub record NextReply (x : Target) (j : ℕ) : Type 0 where
     pub from : k ≤ j
-    pub exists : j < c .edges .end
-    pub target : x ≡ targetOf m (edgeOf m j)
-    pub first : repliesFrom m c k ≡ j ∷ repliesFrom m c (j + 1)
+    pub exists : j < count
+    pub target : x ≡ targetOf (replier t a) (edgeOf (replier t a) j)
+    pub first : repliesFrom t p a k ≡ j ∷ repliesFrom t p a (j + 1)
 
-  module _ {r : Reply} (e : r ≡ replyFrom m c k) where
+  module _ {r : Reply} (e : r ≡ replyFrom t p a k) where
     pub reply-found : {x : Target} {j : ℕ} → r ≡ To x j → NextReply x j
     unfolding replyFrom repliesFrom
     reply-found {x} {j} d = step found refl (sym e ∙ d)
       where
-        step : (o : Option ℕ) → found ≡ o → replyAnswer m o ≡ To x j → NextReply x j
-        step none f a = clash (cc)
-        step (some i) f a =
+        step : (o : Option ℕ) → found ≡ o → replyAnswer (replier t a) o ≡ To x j → NextReply x j
+        step none f g = clash (cc)
+        step (some i) f g =
             let same : i ≡ j = cc in
-            let target : targetOf m (edgeOf m i) ≡ x = cc in
-            let (p, q, h) = keep-some (answersAt m c) k (c .edges .end) i f in
+            let target : targetOf (replier t a) (edgeOf (replier t a) i) ≡ x = cc in
+            let (l, q, h) = keep-some (isReply t p a) k count i f in
             record {
               from = omega arith;
               exists = omega arith;
@@ -63,10 +75,10 @@ module _ (m : Model) (c : Challenge) (k : ℕ) where
               first = rw (add-one, ← same) h;
             }
 
-    pub reply-missing : r ≡ Missing → repliesFrom m c k ≡ []
+    pub reply-missing : r ≡ Missing → repliesFrom t p a k ≡ []
     unfolding replyFrom repliesFrom
     reply-missing d = step found refl (sym e ∙ d)
       where
-        step : (o : Option ℕ) → found ≡ o → replyAnswer m o ≡ Missing → repliesFrom m c k ≡ []
-        step none f a = keep-none (answersAt m c) k (c .edges .end - k) f
-        step (some i) f a = clash (cc)
+        step : (o : Option ℕ) → found ≡ o → replyAnswer (replier t a) o ≡ Missing → repliesFrom t p a k ≡ []
+        step none f g = keep-none (isReply t p a) k (count - k) f
+        step (some i) f g = clash (cc)

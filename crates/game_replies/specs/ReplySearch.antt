@@ -1,24 +1,26 @@
--- The replies to a challenge among the edges of the other side's model.
+-- The replies to an attack, from an edge of the other side's model on.
 use Prim.Native.Nat.{ℕ, _-_}
-use mathlib.Core.Bool.{Bool}
 use mathlib.Core.List.{List}
 use mathlib.Core.Option.{Option, none, some}
 use Rattle.fra.specs.Lists.{keep, count, least}
 use Rattle.fra.specs.Model.{edgeOf}
+use Rattle.fra.specs.Rules.{other, modelOf}
+use Rattle.fra.specs.Game.{isReply}
 use Rattle.fra.specs.declared.Model.{Model}
+use Rattle.fra.specs.declared.Position.{Position}
+use Rattle.fra.specs.declared.Task.{Task}
+use Rattle.fra.specs.declared.Attack.{Attack}
 use Rattle.game_moves.specs.AfterRound.{targetOf}
-use Rattle.game_replies.specs.Challenges.{isAnswer}
-use Rattle.game_replies.specs.declared.Challenge.{Challenge}
 use Rattle.game_replies.specs.declared.Reply.{Reply}
 use Rattle.game_replies.specs.declared.Reply.the-variants.{To, Missing}
 
--- edge number k answers
-abbrev pub answersAt : Model → Challenge → ℕ → Bool
-answersAt m c k = isAnswer c (edgeOf m k .kind)
+-- the model of the side that replies
+abbrev pub replier : Task → Attack → Model
+replier t a = modelOf t (other (a .side))
 
--- those from number k on
-unfoldable pub repliesFrom : Model → Challenge → ℕ → List ℕ
-repliesFrom m c k = keep (answersAt m c) (count k (c .edges .end - k))
+-- the replies from edge number k on
+unfoldable pub repliesFrom : Task → Position → Attack → ℕ → List ℕ
+repliesFrom t p a k = keep (isReply t p a) (count k (replier t a .«edge_count» - k))
 
 -- an edge that was found, as the answer
 abbrev pub replyAnswer : Model → Option ℕ → Reply
@@ -26,5 +28,5 @@ replyAnswer m none = Missing
 replyAnswer m (some k) = To (targetOf m (edgeOf m k)) k
 
 -- the first of them: of several replies the one with the lowest number
-unfoldable pub replyFrom : Model → Challenge → ℕ → Reply
-replyFrom m c k = replyAnswer m (least (answersAt m c) k (c .edges .end - k))
+unfoldable pub replyFrom : Task → Position → Attack → ℕ → Reply
+replyFrom t p a k = replyAnswer (replier t a) (least (isReply t p a) k (replier t a .«edge_count» - k))

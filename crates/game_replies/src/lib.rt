@@ -1,4 +1,4 @@
-// What an attack asks of its replies, and the search for them among the edges of the other side.
+// What an attack asks of its replies, the test for them, and the search for them among the edges of the other side.
 use fra::Attack;
 use fra::EdgeKind;
 use fra::IdCase;
@@ -11,20 +11,20 @@ use game_moves::rounds::Target;
 ghost use mathlib.Core.Path.{_≡_};
 ghost use mathlib.Core.Bool.{cond};
 ghost use Rattle.fra.specs.Model.{isLocallyFresh, isFresh};
-ghost use Rattle.fra.specs.Rules.{other};
-ghost use Rattle.fra.specs.Game.{answers};
-ghost use Rattle.game_index.specs.Reading.{modelIn, taskIn};
+ghost use Rattle.fra.specs.Game.{answers, isReply};
+ghost use Rattle.game_index.specs.Reading.{taskIn};
 ghost use Rattle.game_index.specs.Writing.{Index};
 ghost use Rattle.game_replies.specs.Challenges.{challengeOf, inCase, afterReply};
 ghost use Rattle.game_replies.specs.ReplySearch.{replyFrom};
 
-// An attack as its replies see it: its side, where its edge leads, the partner of that edge's register, the id case, and the edges
-// of the other side that start in its state and have the attack's tag. It holds no matching.
+// An attack as its replies see it: where its edge leads, the partner of that edge's register, and the edges of the other side that
+// start in its state and have the attack's tag. It holds no matching: what replies depend on is read once.
 pub struct Challenge {
     pub side: Side,
+    pub edge: u8,
+    pub case: IdCase,
     pub target: Target,
     pub partner: u8,
-    pub case: IdCase,
     pub edges: Range,
 }
 
@@ -38,14 +38,14 @@ impl Challenge {
         let case = a.case;
         let away = side.other();
         let e = game_index::edge_at(index, side, a.edge);
-        let transition = game_index::transition_at(index, side, a.edge);
-        let target = transition.target;
+        let target = game_index::target_at(index, side, a.edge);
         let edges = game_index::tagged(index, away, p.state(away), e.tag);
         Challenge {
             side,
+            edge: a.edge,
+            case,
             target,
             partner: p.partner(side, target.register),
-            case,
             edges,
         }
     }
@@ -59,11 +59,29 @@ impl Challenge {
         let edges = self.edges;
         Challenge {
             side,
+            edge: self.edge,
+            case,
             target,
             partner: self.partner,
-            case,
             edges,
         }
+    }
+
+    // Edge k of the other side is a reply: it is among the edges that start in that side's state and have the attack's tag, and its
+    // kind answers the id case.
+    pub fn is_reply(self, index: &[u8; SIZE], k: u8) -> bool
+        requires { ⌜ Index (now index) ⌝ }
+        ensures { λ r. ⌜ ((p : Position) (a : Attack) → self ≡ challengeOf (taskIn (now (index .entry))) p a
+            → r ≡ isReply (taskIn (now (index .entry))) p a k) ⌝ }
+    {
+        let edges = self.edges;
+        if (k < edges.first) | (edges.end <= k) {
+            return false;
+        }
+        let side = self.side;
+        let case = self.case;
+        let kind = game_index::kind_at(index, side.other(), k);
+        answers(self.partner, case, kind)
     }
 
     // The position after a reply that leads there.
@@ -116,22 +134,18 @@ fn answers(partner: u8, case: IdCase, kind: EdgeKind) -> bool
     }
 }
 
-// The first reply to a challenge from an edge on.
+// The first reply to a challenge from an edge on. It is looked for among the edges that have the attack's tag.
 pub fn next_reply(index: &[u8; SIZE], challenge: Challenge, from: u8) -> Reply
     requires { ⌜ Index (now index) ⌝ }
-    ensures { λ r. ⌜ r ≡ replyFrom (modelIn (now (index .entry)) (other (challenge .side))) challenge from ⌝ }
+    ensures { λ r. ⌜ ((p : Position) (a : Attack) → challenge ≡ challengeOf (taskIn (now (index .entry))) p a
+        → r ≡ replyFrom (taskIn (now (index .entry))) p a from) ⌝ }
 {
     let side = challenge.side;
-    let case = challenge.case;
     let edges = challenge.edges;
-    let away = side.other();
     let mut k = from;
     while k < edges.end {
-        let transition = game_index::transition_at(index, away, k);
-        let kind = transition.kind;
-        if answers(challenge.partner, case, kind) {
-            let target = transition.target;
-            return Reply::To(target, k);
+        if challenge.is_reply(index, k) {
+            return Reply::To(game_index::target_at(index, side.other(), k), k);
         }
         k += 1;
     }

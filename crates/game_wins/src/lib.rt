@@ -16,14 +16,14 @@ use game_state_pairs::SIZE as PAIRS;
 use listing::Listing;
 use listing::Place;
 ghost use mathlib.Core.Path.{_≡_};
-ghost use Rattle.fra.specs.Rules.{other};
 ghost use Rattle.listing.specs.Listing.{Searchable};
 ghost use Rattle.game_index.specs.Reading.{taskIn};
 ghost use Rattle.game_index.specs.Writing.{Index};
 ghost use Rattle.game_state_pairs.specs.StatePairs.{hasPair};
-ghost use Rattle.game_replies.specs.Challenges.{afterReply};
+ghost use Rattle.game_replies.specs.Challenges.{challengeOf, attackOf, afterReply};
+ghost use Rattle.game_replies.specs.Winner.{winsBy};
 ghost use Rattle.game_wins.specs.Judgement.{judged, judgedAmong};
-ghost use Rattle.game_wins.specs.Wins.{settles, edgeWin, sideWin, firstWin};
+ghost use Rattle.game_wins.specs.Wins.{edgeWin, sideWin, firstWin};
 
 // Which positions count as lost: those with fewer rounds than this, or those that are not listed.
 pub enum Test {
@@ -93,7 +93,7 @@ fn leads_to_lost(
     is_lost(list, judge, challenge.after(p, reply))
 }
 
-// Every reply to the challenge leads to a position that is judged lost; a reply that does not exist settles the round.
+// The attack wins: every reply leads to a position that is judged lost. A reply that does not exist settles the round.
 pub fn settled(
     list: &[u8],
     judge: Judge,
@@ -103,8 +103,8 @@ pub fn settled(
     challenge: Challenge,
 ) -> bool
     requires { ⌜ Searchable (judge .records) (now list) ⌝ }
-    requires { ⌜ Index (now index) ⌝ }
-    ensures { λ r. ⌜ r ≡ settles (judgedAmong (now (losing .entry)) (now (list .entry)) judge) (now (index .entry)) p challenge ⌝ }
+    requires { ⌜ Index (now index) × (challenge ≡ challengeOf (taskIn (now index)) p (attackOf challenge)) ⌝ }
+    ensures { λ r. ⌜ r ≡ winsBy (taskIn (now (index .entry))) (judgedAmong (now (losing .entry)) (now (list .entry)) judge) p (attackOf challenge) ⌝ }
 {
     let edges = challenge.edges;
     let mut from = edges.first;

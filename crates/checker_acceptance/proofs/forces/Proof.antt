@@ -4,7 +4,7 @@ use mathlib.Core.Path.{sym, _∙_}
 use borrow.Author.Tests.{not-true, not-false}
 use Rattle.outcome.specs.Check.{forces}
 use Rattle.checker_acceptance.specs.RecordTests.{lossOf}
-use Rattle.checker_acceptance.proofs.JudgedByRecords.{loss-settled}
+use Rattle.checker_acceptance.proofs.JudgedByRecords.{loss-won}
 use borrow.Author.Needs.{needs}
 use Rattle.checker_acceptance.proofs.forces.Statement.{statement}
 use Rattle.checker_acceptance.proofs.forces.Tie as tie
@@ -17,7 +17,7 @@ settled-requires : tie.Need-settled-requires
 settled-requires c κs =
     let listed = c .before in
     let given = listed .before .before .before .before .before .pre in
-    (rw (listed .records-of .ensures) (given .searchable), given .index)
+    (rw (listed .records-of .ensures) (given .searchable), (given .index, rw (c .of .ensures)))
 
 returns-2 : tie.Need-returns-2
 returns-2 c =
@@ -25,7 +25,7 @@ returns-2 c =
     let named = listed .before in
     let start = named .before .before .before .before in
     let exists = sym (named .before .is-attack .ensures) ∙ not-false _ (named .if1 .left) in
-    rw (loss-settled (start .pre) (lossOf (start .args .x)) (start .args .a), exists)
+    rw (loss-won (start .pre) (lossOf (start .args .x)) (start .args .a), exists)
     (rw (listed .records-of .ensures, c .before .of .ensures) at (c .settled .ensures))
 
 pub forces-spec : {M : Type 1} → statement M

@@ -12,10 +12,9 @@ returns c = sym (no-edge _ _ _ (c .if1 .taken))
 returns-2 : tie.Need-returns-2
 returns-2 c =
     let made = c .before .before .before in
-    let read = made .before .before in
-    rw (edge-in _ _ _ (read .before .if1 .left))
-    (rw (made .of .ensures, read .byte-of .ensures, made .before .byte-of2 .ensures)
-    (rw (c .before .before .byte-of3 .ensures, c .before .byte-of4 .ensures, c .byte-of5 .ensures, add-zero)))
+    let exists = made .before .if1 .left in
+    rw (made .kind-at .ensures, edge-in _ _ _ exists)
+    (rw (c .before .before .byte-of .ensures, c .before .byte-of2 .ensures, c .byte-of3 .ensures, add-zero))
 
 pub edge-at-spec : {M : Type 1} → statement M
 edge-at-spec =
@@ -24,10 +23,6 @@ edge-at-spec =
     returns
     (λ c. search needs)
     (λ c. search needs)
-    (λ c. search needs)
-    (λ c κs. search needs)
-    (λ c. search needs)
-    (λ c κs. search needs)
     (λ c κs. search needs)
     (λ c κs. search needs)
     (λ c. search needs)

@@ -1,64 +1,56 @@
 -- `game_replies::next_reply` meets its contract. The loop's invariant: the answer is that from edge `k` on. The measure is how many
--- edges are left. Assumes nothing.
+-- edges of the range are left. Assumes nothing.
 use Prim.Native.Nat.{_-_}
 use mathlib.Core.Path.{_≡_, refl, sym, _∙_}
 use native.Mathlib.Omega.{arith}
 use denote.Ref.{now}
 use borrow.Author.Needs.{needs}
 use Rattle.fra.specs.Rules.{other}
-use Rattle.game_index.specs.Reading.{modelIn}
-use Rattle.game_replies.specs.ReplySearch.{answersAt, replyFrom}
+use Rattle.fra.specs.declared.Position.{Position}
+use Rattle.fra.specs.declared.Attack.{Attack}
+use Rattle.game_index.specs.Reading.{taskIn}
+use Rattle.game_index.proofs.Reading.{model-in}
+use Rattle.game_replies.specs.Challenges.{challengeOf}
+use Rattle.game_replies.specs.ReplySearch.{replyFrom}
+use Rattle.game_replies.proofs.AttackReplies.{none-past}
 use Rattle.game_replies.proofs.ReplySearch.{reply-here, reply-later, reply-none}
 use Rattle.game_replies.proofs.next_reply.Statement.{statement}
 use Rattle.game_replies.proofs.next_reply.Tie as tie
 
 abbrev Inv-loop : tie.InvT-loop
-Inv-loop index challenge from case edges away k₀ k =
-    replyFrom (modelIn index (other (challenge .side))) challenge from
-    ≡ replyFrom (modelIn index (other (challenge .side))) challenge k
+Inv-loop index challenge from side edges k₀ k =
+    (p : Position) (a : Attack) → challenge ≡ challengeOf (taskIn index) p a
+    → replyFrom (taskIn index) p a from ≡ replyFrom (taskIn index) p a k
 
 abbrev μ-loop : tie.MeasureT-loop
-μ-loop index challenge from case edges away k₀ k = edges .end - k
-
--- whether edge `k` answers was asked of the edge's kind
-asked : (c : tie.After-answers Inv-loop μ-loop) → let at-loop = c .before .before .before .before in
-    let start = at-loop .before .before .before in
-    c .answers .result ≡ answersAt (modelIn (now (start .args .index)) (other (start .args .challenge .side))) (start .args .challenge) (at-loop .loop .k)
-asked c =
-    let read = c .before in
-    let at-loop = read .before .before .before in
-    c .answers .ensures ∙ rw (read .transition-at .ensures, at-loop .before .other .ensures)
+μ-loop index challenge from side edges k₀ k = edges .end - k
 
 loop-holds : tie.Need-loop-holds Inv-loop μ-loop
-loop-holds c = refl
+loop-holds c = λ p a e. refl
 
 returns : tie.Need-returns Inv-loop μ-loop
-returns c =
-    let tested = c .before .before in
-    let at-loop = tested .before .before .before .before in
-    let a = at-loop .before .before .before .args in
+returns c = λ p a e.
+    let tested = c .before .before .before in
+    let at-loop = tested .before .before .before in
+    let b = now (at-loop .before .before .args .index) in
+    let k = at-loop .loop .k in
     sym
-    (at-loop .loop .inv
-    ∙ reply-here (modelIn (now (a .index)) (other (a .challenge .side))) (a .challenge) (at-loop .loop .k) (omega arith)
-    (sym (asked tested) ∙ c .before .if2 .taken)
-    ∙ rw (tested .before .transition-at .ensures, at-loop .before .other .ensures))
+    (at-loop .loop .inv p a e
+    ∙ reply-here (taskIn b) p a k (sym (tested .is-reply .ensures p a e) ∙ c .before .before .if2 .taken)
+    ∙ rw (c .target-at .ensures, c .before .other .ensures, e, model-in b (other (a .side))))
 
 loop-again : tie.Need-loop-again Inv-loop μ-loop
-loop-again c =
+loop-again c = λ p a e.
     let tested = c .before in
-    let at-loop = tested .before .before .before .before in
-    let a = at-loop .before .before .before .args in
-    at-loop .loop .inv
-    ∙ reply-later (modelIn (now (a .index)) (other (a .challenge .side))) (a .challenge) (at-loop .loop .k) (omega arith)
-    (sym (asked tested) ∙ c .if2 .left)
+    let at-loop = tested .before .before .before in
+    at-loop .loop .inv p a e ∙ reply-later _ p a (at-loop .loop .k) (sym (tested .is-reply .ensures p a e) ∙ c .if2 .left)
 
 returns-2 : tie.Need-returns-2 Inv-loop μ-loop
-returns-2 c =
+returns-2 c = λ p a e.
     let at-loop = c .before .before in
-    let a = at-loop .before .before .before .args in
-    sym
-    (at-loop .loop .inv
-    ∙ reply-none (modelIn (now (a .index)) (other (a .challenge .side))) (a .challenge) (at-loop .loop .k) (omega arith))
+    let start = at-loop .before .before in
+    let past = rw e at (c .if1 .left) in
+    sym (at-loop .loop .inv p a e ∙ reply-none _ p a (at-loop .loop .k) (λ j h. none-past (start .pre) p a j (omega arith)))
 
 pub next-reply-spec : {M : Type 1} → statement M
 next-reply-spec =
@@ -66,8 +58,8 @@ next-reply-spec =
     (tie.spec
     Inv-loop
     μ-loop
-    (λ c κs. search needs)
     loop-holds
+    (λ c κs. search needs)
     (λ c κs. search needs)
     (λ c κs. search needs)
     returns

@@ -12,10 +12,10 @@ use Rattle.game_moves.specs.IdCases.{caseFrom}
 use Rattle.game_moves.proofs.IdCases.{case-found, no-case}
 use Rattle.game_index.specs.Reading.{taskIn}
 use Rattle.game_index.proofs.Reading.{model-in}
+use Rattle.game_replies.specs.Challenges.{challengeOf}
 use Rattle.game_replies.specs.Winner.{winsBy}
 use Rattle.game_wins.specs.Judgement.{judgedAmong}
 use Rattle.game_wins.specs.Wins.{winOf, edgeWin}
-use Rattle.game_wins.proofs.SettledAttacks.{settles-wins}
 use Rattle.game_wins.proofs.EdgeCases.{attackIn, edgeCases, NextEdgeCase, edgeWinner}
 use Rattle.game_wins.proofs.EdgeCases.{edge-by-case, no-case-wins, case-wins, case-fails, seen-last}
 use Rattle.game_wins.proofs.edge_win.Statement.{statement}
@@ -67,6 +67,18 @@ next : (c : tie.After-known-told Inv-loop μ-loop) → let at-loop = c .before .
     (c .before .found .given .0 .1 .0)
 next c = case-found _ _ _ _ _ _ _ _ (sym (searched (c .before .before .before)) ∙ c .before .found .given .1)
 
+-- what is asked is what the attack in this case asks
+case-asked : (c : tie.After-in-case Inv-loop μ-loop) → let found = c .before .before in
+    let at-loop = found .before .before .before in
+    let set = at-loop .before .before .before .before in
+    let a = set .before .before .before .before .args in
+    c .in-case .result
+    ≡ challengeOf (taskIn (now (a .index))) (a .p) (attackIn (a .side) (a .k) (found .found .given .0 .0))
+case-asked c =
+    let found = c .before .before in
+    let said = found .before .before .before .before in
+    c .in-case .ensures ∙ rw (said .of .ensures)
+
 -- whether the attack in this case wins
 asked : (c : tie.After-settled Inv-loop μ-loop) → let found = c .before .before .before in
     let at-loop = found .before .before .before in
@@ -75,15 +87,7 @@ asked : (c : tie.After-settled Inv-loop μ-loop) → let found = c .before .befo
     let t = taskIn (now (a .index)) in
     let lost = judgedAmong (now (a .losing)) (now (a .list)) (a .judge) in
     c .settled .result ≡ winsBy t lost (a .p) (attackIn (a .side) (a .k) (found .found .given .0 .0))
-asked c =
-    let found = c .before .before .before in
-    let said = found .before .before .before .before in
-    let set = said .before .before .before in
-    let start = set .before .before .before .before in
-    let a = start .args in
-    c .settled .ensures
-    ∙ rw (c .before .in-case .ensures, said .of .ensures)
-    (settles-wins _ _ _ (start .pre .1) (attackIn (a .side) (a .k) (found .found .given .0 .0)))
+asked c = c .settled .ensures ∙ rw (case-asked (c .before))
 
 -- if it does not, the first that wins is one of those that follow
 failed : (c : tie.Else1 Inv-loop μ-loop) → let found = c .before .before .before .before in
@@ -118,7 +122,8 @@ settled-requires : tie.Need-settled-requires Inv-loop μ-loop
 settled-requires c κs =
     let at-loop = c .before .before .before .before .before in
     let set = at-loop .before .before .before .before in
-    set .before .before .before .before .pre
+    let given = set .before .before .before .before .pre in
+    (given .0, (given .1, rw (case-asked c)))
 
 returns-3 : tie.Need-returns-3 Inv-loop μ-loop
 returns-3 c =

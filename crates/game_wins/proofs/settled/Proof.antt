@@ -1,63 +1,73 @@
--- `game_wins::settled` meets its contract. The loop's invariant: what is to settle from the range's first edge on is what is left
--- to settle from edge `from` on. The measure is how many replies are left. Assumes nothing.
+-- `game_wins::settled` meets its contract. The loop's invariant: the attack wins if the replies from edge `from` on lead to lost
+-- positions. The measure is how many replies are left. Assumes nothing.
 use Prim.Native.Nat.{_+_}
-use mathlib.Core.Path.{_≡_, refl, sym, _∙_}
+use mathlib.Core.Path.{_≡_, sym, _∙_}
 use mathlib.Core.Bool.{_&&_}
 use native.Mathlib.Omega.{arith}
 use lib.ListN.{length}
-use mir.Syntax.{w8}
-use mir.Val.{Fits}
 use denote.Ref.{now}
 use borrow.Author.Needs.{needs}
 use borrow.Author.Tests.{not-true, not-false}
+use Rattle.fra.specs.Rules.{other}
+use Rattle.game_index.specs.Reading.{taskIn}
+use Rattle.game_index.proofs.Reading.{few-edges}
+use Rattle.game_replies.specs.Challenges.{attackOf}
 use Rattle.game_replies.specs.ReplySearch.{repliesFrom}
+use Rattle.game_replies.specs.Winner.{winsBy}
 use Rattle.game_replies.proofs.ReplySearch.{NextReply, reply-found, reply-missing}
 use Rattle.game_wins.specs.Judgement.{judgedAmong}
-use Rattle.game_wins.specs.Wins.{settlesFrom}
-use Rattle.game_wins.proofs.SettledAttacks.{replying, settles-none, settles-next}
+use Rattle.game_wins.proofs.SettledAttacks.{winsFrom, wins-none, wins-next, wins-all}
 use Rattle.game_wins.proofs.settled.Statement.{statement}
 use Rattle.game_wins.proofs.settled.Tie as tie
 
 abbrev Inv-loop : tie.InvT-loop
 Inv-loop list judge losing index p challenge from₀ from =
-    settlesFrom (judgedAmong losing list judge) index p challenge from₀
-    ≡ settlesFrom (judgedAmong losing list judge) index p challenge from
+    winsBy (taskIn index) (judgedAmong losing list judge) p (attackOf challenge)
+    ≡ winsFrom (judgedAmong losing list judge) (taskIn index) p (attackOf challenge) from
 
 abbrev μ-loop : tie.MeasureT-loop
-μ-loop list judge losing index p challenge from₀ from =
-    length (repliesFrom (replying index challenge) challenge from)
-
-end : (c : tie.Start Inv-loop μ-loop) → Fits w8 (c .args .challenge .edges .end)
-end c = search needs
+μ-loop list judge losing index p challenge from₀ from = length (repliesFrom (taskIn index) p (attackOf challenge) from)
 
 -- the reply that was found is the next one
 next : (c : tie.After-known-told Inv-loop μ-loop) → let at-loop = c .before .before .before .before in
     let a = at-loop .before .before .before .args in
-    NextReply (replying (now (a .index)) (a .challenge)) (a .challenge) (at-loop .loop .from) (c .before .reply .given .0 .0)
+    NextReply (taskIn (now (a .index))) (a .p) (attackOf (a .challenge)) (at-loop .loop .from) (c .before .reply .given .0 .0)
     (c .before .reply .given .0 .1 .0)
 next c =
     let found = c .before in
-    reply-found _ _ _ (found .before .before .next-reply .ensures) (found .reply .given .1)
+    let searched = found .before .before in
+    let start = searched .before .before .before .before in
+    reply-found _ _ _ _ (searched .next-reply .ensures (start .args .p) (attackOf (start .args .challenge)) (start .pre .1 .1))
+    (found .reply .given .1)
 
 -- what is left to settle is whether it leads to a lost position, and what is left after it
 left : (c : tie.After-leads-to-lost Inv-loop μ-loop) → let found = c .before .before in
     let at-loop = found .before .before .before in
     let a = at-loop .before .before .before .args in
     let lost = judgedAmong (now (a .losing)) (now (a .list)) (a .judge) in
-    settlesFrom lost (now (a .index)) (a .p) (a .challenge) (a .challenge .edges .first)
-    ≡ (c .leads-to-lost .result && settlesFrom lost (now (a .index)) (a .p) (a .challenge) (found .reply .given .0 .1 .0 + 1))
+    winsBy (taskIn (now (a .index))) lost (a .p) (attackOf (a .challenge))
+    ≡ (c .leads-to-lost .result
+    && winsFrom lost (taskIn (now (a .index))) (a .p) (attackOf (a .challenge)) (found .reply .given .0 .1 .0 + 1))
 left c =
     let at-loop = c .before .before .before .before .before in
-    at-loop .loop .inv ∙ settles-next _ _ _ _ _ (next (c .before)) ∙ rw (c .leads-to-lost .ensures)
+    let start = at-loop .before .before .before in
+    at-loop .loop .inv
+    ∙ wins-next _ _ _ _ _ (start .pre .1 .1) (next (c .before))
+    ∙ rw (c .leads-to-lost .ensures)
 
 loop-holds : tie.Need-loop-holds Inv-loop μ-loop
-loop-holds c = refl
+loop-holds c =
+    let start = c .before .before in
+    rw (start .pre .1 .1) (wins-all (start .pre .1 .0) _ (start .args .p) (attackOf (start .args .challenge)))
 
 returns : tie.Need-returns Inv-loop μ-loop
 returns c =
     let searched = c .before .before in
-    let none-left = reply-missing _ _ _ (searched .next-reply .ensures) (c .enum-told .given .1) in
-    sym (searched .before .loop .inv ∙ settles-none _ _ _ _ _ none-left)
+    let start = searched .before .before .before .before in
+    let none-left =
+    reply-missing _ _ _ _ (searched .next-reply .ensures (start .args .p) (attackOf (start .args .challenge)) (start .pre .1 .1))
+    (c .enum-told .given .1) in
+    sym (searched .before .loop .inv ∙ wins-none _ _ _ _ _ none-left)
 
 returns-2 : tie.Need-returns-2 Inv-loop μ-loop
 returns-2 c =
@@ -67,9 +77,10 @@ returns-2 c =
 add-from : tie.Need-add-from Inv-loop μ-loop
 add-from c =
     let found = c .before .before in
-    let at-loop = found .before .before .before .before in
+    let start = found .before .before .before .before .before .before .before in
     let exists = next found .exists in
-    search (needs, end (at-loop .before .before .before), exists)
+    let few = few-edges (start .pre .1 .0) (other (start .args .challenge .side)) in
+    search (needs, exists, few)
 
 loop-less : tie.Need-loop-less Inv-loop μ-loop
 loop-less c = rw (next (c .before .before) .first) (omega arith)

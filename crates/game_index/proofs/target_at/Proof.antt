@@ -1,0 +1,36 @@
+-- `game_index::target_at` meets its contract: the register set of the to state stands beside the edge. Assumes nothing.
+use mathlib.Core.Path.{_∙_}
+use borrow.Author.Needs.{needs}
+use Rattle.fra_laws.proofs.KindNumbers.{register-of-kind}
+use Rattle.game_index.proofs.Reading.{edge-in, no-edge}
+use Rattle.game_index.proofs.target_at.Statement.{statement}
+use Rattle.game_index.proofs.target_at.Tie as tie
+
+returns : tie.Need-returns
+returns c = rw (no-edge _ _ _ (c .before .if1 .taken)) (rw (c .set-of .ensures))
+
+returns-2 : tie.Need-returns-2
+returns-2 c =
+    let read = c .before .before in
+    let start = read .before .before in
+    let a = start .args in
+    let exists = read .before .if1 .left in
+    let set = c .byte-of3 .ensures ∙ start .pre .to-sets (a .side) (a .k) exists in
+    rw (read .byte-of .ensures, c .before .byte-of2 .ensures, set)
+    (rw (edge-in (a .index .now) (a .side) (a .k) exists, register-of-kind))
+
+pub target-at-spec : {M : Type 1} → statement M
+target-at-spec =
+    tie.close
+    (tie.spec
+    (λ c κs. search needs)
+    returns
+    (λ c. search needs)
+    (λ c. search needs)
+    (λ c. search needs)
+    (λ c κs. search needs)
+    (λ c. search needs)
+    (λ c κs. search needs)
+    (λ c. search needs)
+    (λ c κs. search needs)
+    returns-2)

@@ -3,8 +3,8 @@
 
 use crate::check::{check_by, CheckAnswer};
 use crate::compare::{compare_by, Answer};
-use crate::game::Position;
-use crate::model::{Model, Task};
+use crate::game::{is_reply, named_attack, Position, POSITION_LENGTH};
+use crate::model::{Model, Refusal, Task};
 use crate::rules::Rules;
 use crate::task;
 use std::io::{self, Read, Write};
@@ -14,6 +14,7 @@ pub const COMPARE: u8 = 2;
 pub const CHECK: u8 = 3;
 pub const COMPARE_ONE_WAY: u8 = 4;
 pub const CHECK_ONE_WAY: u8 = 5;
+pub const REPLY: u8 = 6;
 
 /// What a request and its answer are about.
 #[derive(Clone, Copy, PartialEq, Eq, Debug)]
@@ -21,15 +22,17 @@ enum Subject {
     Read,
     Compare(Rules),
     Check(Rules),
+    Reply,
 }
 
 /// The byte that a payload begins with, and what it stands for.
-const SUBJECTS: [(u8, Subject); 5] = [
+const SUBJECTS: [(u8, Subject); 6] = [
     (READ, Subject::Read),
     (COMPARE, Subject::Compare(Rules::TWO_WAY)),
     (CHECK, Subject::Check(Rules::TWO_WAY)),
     (COMPARE_ONE_WAY, Subject::Compare(Rules::ONE_WAY)),
     (CHECK_ONE_WAY, Subject::Check(Rules::ONE_WAY)),
+    (REPLY, Subject::Reply),
 ];
 
 impl Subject {
@@ -43,11 +46,54 @@ impl Subject {
     }
 }
 
+/// Whether the other side's edge with this number is a reply to this attack
+/// in this position. Any bytes will do.
+#[derive(Clone, Copy, PartialEq, Eq, Debug)]
+pub struct ReplyQuestion {
+    pub position: Position,
+    /// Side, edge and case.
+    pub attack: [u8; 3],
+    pub edge: u8,
+}
+
+impl ReplyQuestion {
+    pub const LENGTH: usize = POSITION_LENGTH + 4;
+
+    pub fn bytes(&self) -> [u8; ReplyQuestion::LENGTH] {
+        let mut bytes = [0; ReplyQuestion::LENGTH];
+        let (position, rest) = bytes.split_at_mut(POSITION_LENGTH);
+        position.copy_from_slice(&self.position.bytes());
+        rest[..3].copy_from_slice(&self.attack);
+        rest[3] = self.edge;
+        bytes
+    }
+
+    /// None for any other length.
+    pub fn from_bytes(bytes: &[u8]) -> Option<ReplyQuestion> {
+        if bytes.len() != ReplyQuestion::LENGTH {
+            return None;
+        }
+        let (position, rest) = bytes.split_at(POSITION_LENGTH);
+        Some(ReplyQuestion {
+            position: Position::from_bytes(position),
+            attack: [rest[0], rest[1], rest[2]],
+            edge: rest[3],
+        })
+    }
+
+    /// No for an attack that cannot be named.
+    pub fn answer(&self, task: &Task) -> bool {
+        let attack = named_attack(task, self.attack);
+        attack.is_some_and(|attack| is_reply(task, &self.position, attack, self.edge))
+    }
+}
+
 #[derive(Clone, PartialEq, Eq, Debug)]
 pub enum Request {
     Read { task: Vec<u8> },
     Compare { rules: Rules, task: Vec<u8>, table: Vec<u8>, buffer: Vec<u8> },
     Check { rules: Rules, task: Vec<u8>, certificate: Vec<u8> },
+    Reply { task: Vec<u8>, question: ReplyQuestion },
 }
 
 #[derive(Clone, PartialEq, Eq, Debug)]
@@ -67,6 +113,11 @@ pub enum Response {
         rules: Rules,
         answer: CheckAnswer,
     },
+    /// The answer is 1 for yes, 0 for no and after a refusal.
+    Reply {
+        refusal: u32,
+        answer: u32,
+    },
 }
 
 impl Request {
@@ -75,6 +126,7 @@ impl Request {
             Request::Read { task } => task,
             Request::Compare { task, .. } => task,
             Request::Check { task, .. } => task,
+            Request::Reply { task, .. } => task,
         }
     }
 
@@ -83,6 +135,7 @@ impl Request {
             Request::Read { .. } => Subject::Read,
             Request::Compare { rules, .. } => Subject::Compare(*rules),
             Request::Check { rules, .. } => Subject::Check(*rules),
+            Request::Reply { .. } => Subject::Reply,
         }
     }
 
@@ -91,6 +144,7 @@ impl Request {
             Request::Read { task } => &[task],
             Request::Compare { task, table, buffer, .. } => &[task, table, buffer],
             Request::Check { task, certificate, .. } => &[task, certificate],
+            Request::Reply { task, question } => &[task, &question.bytes()],
         };
         payload(self.subject().byte(), &[], strings)
     }
@@ -106,6 +160,10 @@ impl Request {
                 Request::Compare { rules, task, table, buffer }
             }
             Subject::Check(rules) => Request::Check { rules, task, certificate: fields.string()? },
+            Subject::Reply => {
+                let question = ReplyQuestion::from_bytes(&fields.string()?)?;
+                Request::Reply { task, question }
+            }
         };
         fields.rest.is_empty().then_some(request)
     }
@@ -117,6 +175,7 @@ impl Response {
             Response::Read { .. } => Subject::Read,
             Response::Compare { rules, .. } => Subject::Compare(*rules),
             Response::Check { rules, .. } => Subject::Check(*rules),
+            Response::Reply { .. } => Subject::Reply,
         }
     }
 
@@ -134,6 +193,9 @@ impl Response {
             }
             Response::Check { answer: a, .. } => {
                 payload(self.first_byte(), &[a.refusal, a.verdict, a.rounds], &[])
+            }
+            Response::Reply { refusal, answer } => {
+                payload(self.first_byte(), &[*refusal, *answer], &[])
             }
         }
     }
@@ -157,6 +219,9 @@ impl Response {
                 let (refusal, verdict) = (fields.number()?, fields.number()?);
                 let answer = CheckAnswer { refusal, verdict, rounds: fields.number()? };
                 Response::Check { rules, answer }
+            }
+            Subject::Reply => {
+                Response::Reply { refusal: fields.number()?, answer: fields.number()? }
             }
         };
         fields.rest.is_empty().then_some(response)
@@ -264,5 +329,9 @@ pub fn reference_response(request: &Request) -> Response {
         Request::Check { rules, task, certificate } => {
             Response::Check { rules: *rules, answer: check_by(*rules, task, certificate) }
         }
+        Request::Reply { task, question } => match task::read(task) {
+            Ok(task) => Response::Reply { refusal: 0, answer: question.answer(&task) as u32 },
+            Err(Refusal(refusal)) => Response::Reply { refusal, answer: 0 },
+        },
     }
 }

@@ -119,6 +119,13 @@ pub struct Attack {
     pub case: u8,
 }
 
+impl Attack {
+    /// The edge that attacks.
+    fn edge_of(self, task: &Task) -> &Edge {
+        &task.model(self.side).edges[self.edge as usize]
+    }
+}
+
 /// The id cases of an edge of `side` in this position, rising.
 fn cases(task: &Task, position: &Position, side: Side, edge: &Edge) -> Vec<u8> {
     match edge.kind {
@@ -152,42 +159,59 @@ pub fn attacks(rules: Rules, task: &Task, position: &Position) -> Vec<Attack> {
     list
 }
 
-/// The attack with these bytes, side, edge and case, if it exists in the
+/// The attack with these bytes, side, edge and case, if there is such a side,
+/// such an edge of it and such a case at all; it need not exist in any
 /// position.
+pub fn named_attack(task: &Task, [side, edge, case]: [u8; 3]) -> Option<Attack> {
+    let side = Side::from_number(side)?;
+    let named = (edge as usize) < task.model(side).edges.len() && case <= CASE_NEW;
+    named.then_some(Attack { side, edge, case })
+}
+
+/// The attack with these bytes, if it exists in the position.
 pub fn existing_attack(
     rules: Rules,
     task: &Task,
     position: &Position,
-    [side, edge, case]: [u8; 3],
+    bytes: [u8; 3],
 ) -> Option<Attack> {
-    let side = Side::from_number(side).filter(|&s| rules.attacks(s))?;
-    let found = task.model(side).edges.get(edge as usize)?;
-    let starts_here = found.from == position.state(side);
-    let exists = starts_here && cases(task, position, side, found).contains(&case);
-    exists.then_some(Attack { side, edge, case })
+    let attack = named_attack(task, bytes).filter(|a| rules.attacks(a.side))?;
+    let edge = attack.edge_of(task);
+    let starts_here = edge.from == position.state(attack.side);
+    let exists = starts_here && cases(task, position, attack.side, edge).contains(&attack.case);
+    exists.then_some(attack)
 }
 
-/// Whether an edge of the other side takes the attack's number.
-fn answers(position: &Position, attack: Attack, edge: &Edge, reply: &Edge) -> bool {
+/// Whether the other side's edge with this number is a reply to the attack:
+/// there is such an edge, it starts in the other side's state, has the
+/// attack's tag and takes the attack's number. Nothing else about the attack
+/// and the position is asked, not even whether they could come about.
+pub fn is_reply(task: &Task, position: &Position, attack: Attack, number: u8) -> bool {
+    let (edge, other) = (attack.edge_of(task), attack.side.other());
+    let Some(reply) = task.model(other).edges.get(number as usize) else {
+        return false;
+    };
+    if reply.from != position.state(other) || reply.tag != edge.tag {
+        return false;
+    }
     let known_of = |j: u8| reply.kind == Kind::Known && reply.register == j;
-    if edge.kind == Kind::Known {
-        return match position.partner(attack.side, edge.register) {
+    match attack.case {
+        CASE_KNOWN => match position.partner(attack.side, edge.register) {
             Some(j) => known_of(j),
             // Only the attacker holds the number, so it is fresh to the
             // other reader, but it is in the history.
             None => reply.kind == Kind::LocallyFresh,
-        };
-    }
-    match attack.case {
+        },
         CASE_SEEN => reply.kind == Kind::LocallyFresh,
         CASE_NEW => reply.kind.is_fresh(),
         j => known_of(j),
     }
 }
 
-/// The position after attack and reply.
-fn after(task: &Task, position: &Position, attack: Attack, edge: &Edge, reply: &Edge) -> Position {
+/// The position after an attack and the reply with this edge number.
+fn after(task: &Task, position: &Position, attack: Attack, number: u8) -> Position {
     let (side, other) = (attack.side, attack.side.other());
+    let (edge, reply) = (attack.edge_of(task), &task.model(other).edges[number as usize]);
     let mut next = *position;
     if edge.kind.is_fresh() {
         next.part(side, edge.register);
@@ -221,15 +245,10 @@ pub struct Reply {
     pub leads_to: Position,
 }
 
-/// All replies to an attack that exists, by edge number.
+/// All replies to an attack that exists, by edge number. A position is made
+/// only for an edge that is a reply.
 pub fn replies(task: &Task, position: &Position, attack: Attack) -> Vec<Reply> {
-    let other = attack.side.other();
-    let edge = &task.model(attack.side).edges[attack.edge as usize];
-    let mut list = Vec::new();
-    for (number, reply) in task.model(other).edges_from(position.state(other)) {
-        if reply.tag == edge.tag && answers(position, attack, edge, reply) {
-            list.push(Reply { edge: number, leads_to: after(task, position, attack, edge, reply) });
-        }
-    }
-    list
+    let numbers = 0..task.model(attack.side.other()).edges.len() as u8;
+    let found = numbers.filter(|&number| is_reply(task, position, attack, number));
+    found.map(|edge| Reply { edge, leads_to: after(task, position, attack, edge) }).collect()
 }

@@ -45,7 +45,8 @@ impl Reader {
         self.registers.contains(&Some(number))
     }
 
-    fn takes(&self, edge: &Edge, number: Number, history: NumberSet) -> bool {
+    /// Whether an edge from this reader's state takes the number.
+    pub fn takes(&self, edge: &Edge, number: Number, history: NumberSet) -> bool {
         match edge.kind {
             Kind::Known => self.registers[edge.register as usize - 1] == Some(number),
             Kind::LocallyFresh => !self.holds(number),

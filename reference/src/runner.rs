@@ -445,6 +445,8 @@ fn alter(random: &mut Random, reply: &mut Reply, field: &str) -> bool {
             "buffer" => flip(random, buffer),
             _ => add_one(&mut answer.refusal),
         },
+        // The runner asks for none, but a partner can answer so.
+        Reply::Frame(Response::Reply { refusal, .. }) => add_one(refusal),
     }
 }
 
@@ -482,6 +484,9 @@ fn describe(reply: &Reply, other: &Reply) -> String {
             format!("refusal {refusal}, dump {}", hex(dump, 0))
         }
         (Reply::Frame(Response::Check { answer, .. }), _) => format!("{answer:?}"),
+        (Reply::Frame(Response::Reply { refusal, answer }), _) => {
+            format!("refusal {refusal}, answer {answer}")
+        }
         (Reply::Frame(Response::Compare { answer, table, buffer, .. }), other) => {
             let (other_table, other_buffer) = match other {
                 Reply::Frame(Response::Compare { table, buffer, .. }) => (&table[..], &buffer[..]),

@@ -8,6 +8,7 @@ mod history;
 mod marked;
 mod one_way;
 mod reader;
+mod replies;
 mod runner;
 mod sizes;
 mod whole;
@@ -29,6 +30,7 @@ fn main() {
         games::TESTS,
         history::TESTS,
         sizes::TESTS,
+        replies::TESTS,
         generator::TESTS,
         runner::TESTS,
     ];

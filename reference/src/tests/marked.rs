@@ -106,8 +106,12 @@ fn case_1() {
     assert_eq!(buffer, hex(records));
 }
 
+pub fn task_2() -> Vec<u8> {
+    task_of(model_p(), model_g(), &[])
+}
+
 fn case_2() {
-    let (answer, table, buffer) = run(&task_of(model_p(), model_g(), &[]), 27, 18);
+    let (answer, table, buffer) = run(&task_2(), 27, 18);
     assert_eq!(answer, differ(2, 1, 17));
     let entries =
         "00 00 00 00 00 00 00 00 0d 00 00 00 01  01 01 01 00 00 00 00 00 0d ff ff ff ff  00";
@@ -116,17 +120,20 @@ fn case_2() {
 }
 
 fn case_2_blank() {
-    let task = stating(task_of(model_p(), model_g(), &[]), 0);
-    let (answer, table, buffer) = run(&task, 26, 20);
+    let (answer, table, buffer) = run(&stating(task_2(), 0), 26, 20);
     assert_eq!(answer, equal(2, 20));
     let entries = "00 00 00 00 00 00 00 00 00 ff ff ff ff  01 01 01 00 00 00 00 00 01 ff ff ff ff";
     assert_eq!(table, hex(entries));
     assert_eq!(buffer, hex("10 00 00 00 00 00 00 00 00 00  10 01 01 01 00 00 00 00 00 01"));
 }
 
-fn case_3() {
+pub fn task_3() -> Vec<u8> {
     let two = hex("01 02 02 00  02 00 00 00  02 01 02 00  03 00 00 01 02 01  03 01 01 00 02 01");
-    assert_eq!(roomy(&task_of(model_p(), two, &[])), equal(2, 20));
+    task_of(model_p(), two, &[])
+}
+
+fn case_3() {
+    assert_eq!(roomy(&task_3()), equal(2, 20));
 }
 
 /// One state each with a known loop.

@@ -25,7 +25,7 @@ pub const TESTS: &[Test] = &[
     ("runner: a partner that fails is reported", failing_partner),
 ];
 
-fn built(name: &str) -> PathBuf {
+pub fn built(name: &str) -> PathBuf {
     let tests = std::env::current_exe().expect("own path");
     tests.parent().expect("a directory").join(name)
 }

@@ -11,6 +11,7 @@ use game_index::Transition;
 use game_index::layout::SIZE;
 use game_moves::rounds;
 use game_moves::rounds::Target;
+use game_replies::joint;
 use table::HISTORY_BASE;
 use table::PARTNER_BASE;
 use table::STATE_BASE;
@@ -103,7 +104,7 @@ fn visit_pair(
 {
     let kind = left.kind;
     let other_kind = right.kind;
-    if !rounds::joint(p, kind, other_kind) {
+    if !joint(p, kind, other_kind) {
         return Explored::Count(n);
     }
     let target = left.target;

@@ -3,14 +3,11 @@ use fra::EdgeKind;
 use fra::IdCase;
 use fra::Model;
 use fra::Position;
-use fra::Side;
 use fra::has;
 ghost use mathlib.Core.Path.{_≡_};
 ghost use lib.Dec.{ltb};
 ghost use Rattle.fra.specs.Position.{heldIn};
 ghost use Rattle.fra.specs.Game.{rejoined, remaining};
-ghost use Rattle.fra.specs.declared.Side.the-variants.{Left};
-ghost use Rattle.fra_laws.specs.Joint.{compatible};
 ghost use Rattle.game_moves.specs.AfterRound.{movedTo};
 ghost use Rattle.game_moves.specs.HistorySizes.{firstSize, bothLocallyFresh};
 
@@ -57,29 +54,6 @@ pub fn moved(p: Position, size: u8, left: Target, right: Target) -> Position
         right: right.state,
         partners,
         history: size,
-    }
-}
-
-// A left and a right edge of these kinds can take one number in a round.
-pub fn joint(p: Position, left: EdgeKind, right: EdgeKind) -> bool
-    ensures { λ r. ⌜ r ≡ compatible p Left left right ⌝ }
-{
-    match left {
-        EdgeKind::Known(i) => match right {
-            EdgeKind::Known(j) => p.partner(Side::Left, i) == j,
-            EdgeKind::LocallyFresh(_) => p.partner(Side::Left, i) == 0,
-            EdgeKind::GloballyFresh(_) => false,
-        },
-        EdgeKind::LocallyFresh(_) => match right {
-            EdgeKind::Known(j) => p.partner(Side::Right, j) == 0,
-            EdgeKind::LocallyFresh(_) => true,
-            EdgeKind::GloballyFresh(_) => true,
-        },
-        EdgeKind::GloballyFresh(_) => match right {
-            EdgeKind::Known(_) => false,
-            EdgeKind::LocallyFresh(_) => true,
-            EdgeKind::GloballyFresh(_) => true,
-        },
     }
 }
 

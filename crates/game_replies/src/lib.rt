@@ -12,6 +12,8 @@ ghost use mathlib.Core.Path.{_≡_};
 ghost use mathlib.Core.Bool.{cond};
 ghost use Rattle.fra.specs.Model.{isLocallyFresh, isFresh};
 ghost use Rattle.fra.specs.Game.{answers, isReply};
+ghost use Rattle.fra.specs.declared.Side.the-variants.{Left};
+ghost use Rattle.fra_laws.specs.Joint.{compatible};
 ghost use Rattle.game_index.specs.Reading.{taskIn};
 ghost use Rattle.game_index.specs.Writing.{Index};
 ghost use Rattle.game_replies.specs.Challenges.{challengeOf, inCase, afterReply};
@@ -131,6 +133,29 @@ fn answers(partner: u8, case: IdCase, kind: EdgeKind) -> bool
         IdCase::Private(j) => kind.is_known(j),
         IdCase::Seen => takes_unheld(kind, false),
         IdCase::New => takes_unheld(kind, true),
+    }
+}
+
+// A left and a right edge of these kinds can take one number in a round.
+pub fn joint(p: Position, left: EdgeKind, right: EdgeKind) -> bool
+    ensures { λ r. ⌜ r ≡ compatible p Left left right ⌝ }
+{
+    match left {
+        EdgeKind::Known(i) => match right {
+            EdgeKind::Known(j) => p.partner(Side::Left, i) == j,
+            EdgeKind::LocallyFresh(_) => p.partner(Side::Left, i) == 0,
+            EdgeKind::GloballyFresh(_) => false,
+        },
+        EdgeKind::LocallyFresh(_) => match right {
+            EdgeKind::Known(j) => p.partner(Side::Right, j) == 0,
+            EdgeKind::LocallyFresh(_) => true,
+            EdgeKind::GloballyFresh(_) => true,
+        },
+        EdgeKind::GloballyFresh(_) => match right {
+            EdgeKind::Known(_) => false,
+            EdgeKind::LocallyFresh(_) => true,
+            EdgeKind::GloballyFresh(_) => true,
+        },
     }
 }
 

@@ -1,8 +1,8 @@
--- `game_moves::rounds::joint` meets its contract, kind by kind. Assumes nothing.
+-- `game_replies::joint` meets its contract, kind by kind. Assumes nothing.
 use borrow.Author.Needs.{needs}
 use Rattle.fra_laws.specs.Joint.{compatible}
-use Rattle.game_moves.proofs.rounds.joint.Statement.{statement}
-use Rattle.game_moves.proofs.rounds.joint.Tie as tie
+use Rattle.game_replies.proofs.joint.Statement.{statement}
+use Rattle.game_replies.proofs.joint.Tie as tie
 
 returns : tie.Need-returns
 unfolding compatible

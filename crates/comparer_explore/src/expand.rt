@@ -19,6 +19,8 @@ ghost use Prim.Native.Nat.{_<_};
 ghost use mathlib.Core.Path.{_≡_};
 ghost use mathlib.Core.Bool.{true};
 ghost use Rattle.fra.specs.Position.{legal};
+ghost use Rattle.fra.specs.declared.Side.the-variants.{Left};
+ghost use Rattle.fra_laws.specs.Joint.{compatible};
 ghost use Rattle.game_index.specs.Reading.{taskIn, rulesIn};
 ghost use Rattle.game_index.specs.Writing.{Index};
 ghost use Rattle.table_laws.specs.Keys.{keyOf, keyLimit};
@@ -87,7 +89,7 @@ fn key_after(half: Half, size: u8, left: u8, right: Target) -> u32
     key * HISTORY_BASE + (size as u32)
 }
 
-// Inserts the keys of the positions that a left and a right edge lead to, if they can take one number. Two locally fresh edges take
+// Inserts the keys of the positions that a left and a right edge lead to, which can take one number. Two locally fresh edges take
 // a new number, or one seen before if there is room for such; at the history's greatest size both lead to one position.
 fn visit_pair(
     table: &mut [u8],
@@ -99,14 +101,11 @@ fn visit_pair(
     right: Transition,
 ) -> Explored
     requires { ⌜ Stored n (now table) ⌝ }
-    requires { ⌜ half ≡ halfOf p (left .target) ⌝ }
+    requires { ⌜ (half ≡ halfOf p (left .target)) × (compatible p Left (left .kind) (right .kind) ≡ true) ⌝ }
     ensures { λ r. ⌜ Visited (PairKey room p left right) n (now (table .entry)) r (now (table .exit)) ⌝ }
 {
     let kind = left.kind;
     let other_kind = right.kind;
-    if !joint(p, kind, other_kind) {
-        return Explored::Count(n);
-    }
     let target = left.target;
     let other_target = right.target;
     let size = rounds::size_after(kind, other_kind, p.history);
@@ -124,7 +123,7 @@ fn visit_pair(
     Explored::Count(m)
 }
 
-// Inserts the positions that a left edge leads to with right edges of a range.
+// Inserts the positions that a left edge leads to with right edges of a range. Whether they can take one number is asked first.
 fn visit_edges(
     table: &mut [u8],
     n: usize,
@@ -139,15 +138,20 @@ fn visit_edges(
     ensures { λ r. ⌜ Visited (RangeKey (now (index .entry)) room p left edges) n (now (table .entry)) r (now (table .exit)) ⌝ }
 {
     let half = left_half(p, left.target);
+    let partners = p.partners;
+    let kind = left.kind;
     let end = edges.end;
     let mut m = n;
     let mut k = edges.first;
     while k < end {
         let right = game_index::transition_at(index, Side::Right, k);
-        let Explored::Count(more) = visit_pair(table, m, p, room, half, left, right) else {
-            return Explored::TooMany;
-        };
-        m = more;
+        let other_kind = right.kind;
+        if joint(&partners, kind, other_kind) {
+            let Explored::Count(more) = visit_pair(table, m, p, room, half, left, right) else {
+                return Explored::TooMany;
+            };
+            m = more;
+        }
         k += 1;
     }
     Explored::Count(m)

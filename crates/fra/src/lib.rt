@@ -1,5 +1,6 @@
 // Fresh-register automata (01, "A reader model" and "Positions and rounds"): the types that every other crate speaks in.
 ghost use mathlib.Core.Path.{_≡_};
+ghost use lib.ListN.{length};
 ghost use Rattle.fra.specs.Registers.{has};
 ghost use Rattle.fra.specs.Model.{registerOf, kindNumber, kindOf, isKnown, isLocallyFresh, isFresh};
 ghost use Rattle.fra.specs.Rules.{other, isLeft, rulesOf, gameNumber, gameOf};
@@ -185,8 +186,8 @@ impl Position {
     {
         let partners = self.partners;
         match side {
-            Side::Left => right_partner(partners, i),
-            Side::Right => left_partner(partners, i),
+            Side::Left => right_partner(&partners, i),
+            Side::Right => left_partner(&partners, i),
         }
     }
 
@@ -207,8 +208,9 @@ impl Position {
 }
 
 // The partner of left register i.
-fn right_partner(partners: [u8; 6], i: u8) -> u8
-    ensures { λ r. ⌜ r ≡ rightPartner partners i ⌝ }
+pub fn right_partner(partners: &[u8], i: u8) -> u8
+    requires { ⌜ length (now partners) ≡ 6 ⌝ }
+    ensures { λ r. ⌜ r ≡ rightPartner (now (partners .entry)) i ⌝ }
 {
     if i == 0 {
         return 0;
@@ -220,8 +222,9 @@ fn right_partner(partners: [u8; 6], i: u8) -> u8
 }
 
 // The left register whose partner is right register j.
-fn left_partner(partners: [u8; 6], j: u8) -> u8
-    ensures { λ r. ⌜ r ≡ leftPartner 1 partners j ⌝ }
+pub fn left_partner(partners: &[u8], j: u8) -> u8
+    requires { ⌜ length (now partners) ≡ 6 ⌝ }
+    ensures { λ r. ⌜ r ≡ leftPartner 1 (now (partners .entry)) j ⌝ }
 {
     let mut i: u8 = 0;
     while i < Model::REGISTERS {
@@ -237,7 +240,7 @@ fn left_partner(partners: [u8; 6], j: u8) -> u8
 fn unshared(partners: [u8; 6], right: u8, j: u8) -> bool
     ensures { λ r. ⌜ r ≡ isUnshared right partners j ⌝ }
 {
-    has(right, j) & (left_partner(partners, j) == 0)
+    has(right, j) & (left_partner(&partners, j) == 0)
 }
 
 // Two models, and the position that a comparison starts from. Its history's size may be stated in the task's file.

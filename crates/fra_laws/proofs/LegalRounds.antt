@@ -2,12 +2,12 @@
 use Prim.Native.Nat.{ℕ, suc, _*_, _≤_}
 use mathlib.Core.Path.{_≡_, refl, sym, _∙_, ap}
 use mathlib.Core.Logic.{_⊎_, inl, inr}
-use mathlib.Core.Bool.{Bool, true, false, cond, false≢true}
+use mathlib.Core.Bool.{Bool, true, false, cond}
 use mathlib.Core.List.{[], _∷_, map, List·Memᴰ·not-nil, List·Memᴰ·cases-cons, List·Memᴰ·eq-of-singleton, Memᴰ·of-map}
 use native.Mathlib.Omega.{arith}
 use lib.ListN.{length}
 use lib.Dec.{ltb}
-use borrow.Author.Tests.{ltb-true, ltb-false, eqb-true}
+use borrow.Author.Tests.{ltb-true, ltb-false}
 use Rattle.fra.specs.Lists.{_∈_}
 use Rattle.fra.specs.Registers.{has}
 use Rattle.fra.specs.Model.{edgeOf, registerOf}
@@ -31,7 +31,7 @@ use Rattle.fra_laws.proofs.Registers.{has-positive, matched-length}
 use Rattle.fra_laws.proofs.HeldNumbers.{held-most, standing-intro}
 use Rattle.fra_laws.proofs.HeldAfterRounds.{standIn, stand-in-apart, stand-in-shared, held-no-more, held-one-more}
 use Rattle.fra_laws.proofs.Legal.{held-before, Legal, joined, legal-facts, legal-intro, moved-joined}
-use Rattle.fra_laws.proofs.Pairs.{Pair, movedBy, reply-pair, other-pair}
+use Rattle.fra_laws.proofs.Pairs.{known-answers, fresh-answers, none-answers, Pair, movedBy, reply-pair, other-pair}
 
 -- ── The size that a new number raises the history to ──
 
@@ -139,23 +139,23 @@ module _ {r : ℕ} {t : Task} {p : Position} (l : Legal r t p) where
         let same = List·Memᴰ·eq-of-singleton s in
         let few =
         held-left a b (held-before left to-left (Known a) f) (held-before right to-right (Known b) g) (f .0) m
-        (λ j h q. sym q ∙ eqb-true (rightPartner (p .partners) a) b e) in
+        (λ j h q. sym q ∙ known-answers (rightPartner (p .partners) a) b e) in
         omega (arith, l .least)
     held-by-kinds (Known a) (LocallyFresh b) size f g m n e s =
         let same = List·Memᴰ·eq-of-singleton s in
-        let alone = eqb-true (rightPartner (p .partners) a) 0 e in
+        let alone = fresh-answers (rightPartner (p .partners) a) b e in
         let few =
         held-left a b (held-before left to-left (Known a) f) (held-before right to-right (LocallyFresh b) g) (f .0) m
         (λ j h q. absurd (omega arith)) in
         omega (arith, l .least)
-    held-by-kinds (Known a) (GloballyFresh b) size f g m n e s = absurd (false≢true e)
+    held-by-kinds (Known a) (GloballyFresh b) size f g m n e s = absurd (none-answers (rightPartner (p .partners) a) b e)
     held-by-kinds (LocallyFresh a) (Known b) size f g m n e s =
         let same = List·Memᴰ·eq-of-singleton s in
         let few =
         held-right a b (held-before left to-left (LocallyFresh a) f) (held-before right to-right (Known b) g) (g .0) n
-        (eqb-true (leftPartner 1 (p .partners) b) 0 e) in
+        (fresh-answers (leftPartner 1 (p .partners) b) a e) in
         omega (arith, l .least)
-    held-by-kinds (GloballyFresh a) (Known b) size f g m n e s = absurd (false≢true e)
+    held-by-kinds (GloballyFresh a) (Known b) size f g m n e s = absurd (none-answers (leftPartner 1 (p .partners) b) a e)
     held-by-kinds (LocallyFresh a) (LocallyFresh b) size f g m n e s =
         held-fresh a b size (held-before left to-left (LocallyFresh a) f) (held-before right to-right (LocallyFresh b) g) s
     held-by-kinds (LocallyFresh a) (GloballyFresh b) size f g m n e s =

@@ -1,17 +1,16 @@
 -- Pairs of a left and a right edge that can take one number: which kinds answer each other, and the history's size after such a
 -- round. For any rules and register count. Assumes nothing.
 use Prim.Native.Nat.{ℕ, zero, suc, _≤_, _<_}
-use mathlib.Core.Path.{_≡_, refl, sym, _∙_}
+use mathlib.Core.Path.{_≡_, refl, sym}
 use mathlib.Core.Logic.{_⊎_, inl, inr}
 use mathlib.Core.Bool.{Bool, true, false, cond, false≢true}
 use mathlib.Core.List.{List, [], _∷_, List·Memᴰ·head, List·Memᴰ·tail, List·Memᴰ·not-nil, List·Memᴰ·cases-cons, List·Memᴰ·eq-of-singleton}
 use native.Mathlib.Omega.{arith}
 use lib.ListN.{length}
-use lib.Dec.{eqb}
 use borrow.Author.Tests.{eqb-true, eq-eqb}
 use Rattle.fra.specs.Lists.{_∈_}
 use Rattle.fra.specs.Registers.{has}
-use Rattle.fra.specs.Model.{setOf, edgeOf, registerOf}
+use Rattle.fra.specs.Model.{setOf, edgeOf, registerOf, isFresh}
 use Rattle.fra.specs.Rules.{Rules, other, leftOf, rightOf, modelOf}
 use Rattle.fra.specs.Position.{stateOf, filled, partner, hasRoom}
 use Rattle.fra.specs.Game.{hasCase, attacks, answers, replies, sizeAfter, moved}
@@ -34,28 +33,63 @@ use Rattle.fra_laws.proofs.Legal.{valid-side, Legal, partner-mutual}
 
 -- ── Kinds that answer each other ──
 
--- a known edge of a register with partner b, and what answers it
-held-compatible : (p : Position) (s : Side) (i : ℕ) (others : EdgeKind) (b : ℕ) → partner p s i ≡ b
-    → answers b Held others ≡ true → compatible p s (Known i) others ≡ true
-unfolding answers compatible
-held-compatible p s i (Known j) zero q e = absurd (false≢true e)
-held-compatible p s i (Known j) (suc b) q e = eq-eqb _ _ (q ∙ sym (eqb-true _ _ e))
-held-compatible p s i (LocallyFresh j) zero q e = eq-eqb _ _ q
-held-compatible p s i (LocallyFresh j) (suc b) q e = absurd (false≢true e)
-held-compatible p s i (GloballyFresh j) zero q e = absurd (false≢true e)
-held-compatible p s i (GloballyFresh j) (suc b) q e = absurd (false≢true e)
+-- what answers a known edge of a register with partner b: the known edge of the partner, or a locally fresh one if there is none
+pub known-answers : (b j : ℕ) → answers b Held (Known j) ≡ true → b ≡ j
+unfolding answers
+known-answers zero j e = absurd (false≢true e)
+known-answers (suc b) j e = sym (eqb-true j (suc b) e)
+
+pub fresh-answers : (b j : ℕ) → answers b Held (LocallyFresh j) ≡ true → b ≡ 0
+unfolding answers
+fresh-answers zero j e = refl
+fresh-answers (suc b) j e = absurd (false≢true e)
+
+pub none-answers : (b j : ℕ) → answers b Held (GloballyFresh j) ≡ true → ⊥
+unfolding answers
+none-answers zero j e = false≢true e
+none-answers (suc b) j e = false≢true e
+
+-- which kinds are compatible, by which of them is known
+module _ (p : Position) (s : Side) where
+  pub own-known : (own others : EdgeKind) → isFresh own ≡ false
+      → compatible p s own others ≡ answers (partner p s (registerOf own)) Held others
+  unfolding compatible
+  own-known (Known i) others e = refl
+  own-known (LocallyFresh i) others e = absurd (false≢true (sym e))
+  own-known (GloballyFresh i) others e = absurd (false≢true (sym e))
+
+  pub other-known : (own others : EdgeKind) → isFresh own ≡ true → isFresh others ≡ false
+      → compatible p s own others ≡ answers (partner p (other s) (registerOf others)) Held own
+  unfolding compatible
+  other-known (Known i) others e f = absurd (false≢true e)
+  other-known (LocallyFresh i) (Known j) e f = refl
+  other-known (LocallyFresh i) (LocallyFresh j) e f = absurd (false≢true (sym f))
+  other-known (LocallyFresh i) (GloballyFresh j) e f = absurd (false≢true (sym f))
+  other-known (GloballyFresh i) (Known j) e f = refl
+  other-known (GloballyFresh i) (LocallyFresh j) e f = absurd (false≢true (sym f))
+  other-known (GloballyFresh i) (GloballyFresh j) e f = absurd (false≢true (sym f))
+
+  pub both-fresh : (own others : EdgeKind) → isFresh own ≡ true → isFresh others ≡ true → compatible p s own others ≡ true
+  unfolding compatible
+  both-fresh (Known i) others e f = absurd (false≢true e)
+  both-fresh (LocallyFresh i) (Known j) e f = absurd (false≢true f)
+  both-fresh (LocallyFresh i) (LocallyFresh j) e f = refl
+  both-fresh (LocallyFresh i) (GloballyFresh j) e f = refl
+  both-fresh (GloballyFresh i) (Known j) e f = absurd (false≢true f)
+  both-fresh (GloballyFresh i) (LocallyFresh j) e f = refl
+  both-fresh (GloballyFresh i) (GloballyFresh j) e f = refl
 
 -- a kind that answers a case of another is compatible with it
 answers-compatible : (t : Task) (p : Position) (s : Side) (own : EdgeKind) (c : IdCase) (others : EdgeKind)
     → hasCase t p s own c ≡ true → answers (partner p s (registerOf own)) c others ≡ true → compatible p s own others ≡ true
 unfolding hasCase answers compatible
-answers-compatible t p s (Known i) Held others h e = held-compatible p s i others (partner p s i) refl e
+answers-compatible t p s (Known i) Held others h e = e
 answers-compatible t p s (Known i) (Private j) others h e = absurd (false≢true h)
 answers-compatible t p s (Known i) Seen others h e = absurd (false≢true h)
 answers-compatible t p s (Known i) New others h e = absurd (false≢true h)
 answers-compatible t p s (LocallyFresh i) Held others h e = absurd (false≢true h)
 answers-compatible t p s (LocallyFresh i) (Private j) (Known k) h e =
-    rw (eqb-true k j e) (and-right (has (filled t p (other s)) j) (eqb (partner p (other s) j) 0) h)
+    let alone = eqb-true (partner p (other s) j) 0 (and-right (has (filled t p (other s)) j) _ h) in rw (eqb-true k j e, alone)
 answers-compatible t p s (LocallyFresh i) (Private j) (LocallyFresh k) h e = refl
 answers-compatible t p s (LocallyFresh i) (Private j) (GloballyFresh k) h e = refl
 answers-compatible t p s (LocallyFresh i) Seen (Known k) h e = absurd (false≢true e)
@@ -166,45 +200,40 @@ pub compatible-answers : (r : ℕ) (t : Task) (p : Position) (s : Side) (own oth
     → Answered r t p s own others size
 unfolding hasCase answers compatible sizesAfter
 compatible-answers r t p s (Known i) (Known j) size l g h e m =
-    let held = sym (List·Memᴰ·eq-of-singleton m) in
-    record {
-      case = Held;
-      within = tt;
-      leads = held;
-      in-case = refl;
-      answering = partner-answers (partner p s i) j l (eqb-true (partner p s i) j e);
-    }
+    record { case = Held; within = tt; leads = sym (List·Memᴰ·eq-of-singleton m); in-case = refl; answering = e }
 compatible-answers r t p s (Known i) (LocallyFresh j) size l g h e m =
-    let held = sym (List·Memᴰ·eq-of-singleton m) in
-    record { case = Held; within = tt; leads = held; in-case = refl; answering = rw (eqb-true (partner p s i) 0 e) }
-compatible-answers r t p s (Known i) (GloballyFresh j) size l g h e m = absurd (false≢true e)
+    record { case = Held; within = tt; leads = sym (List·Memᴰ·eq-of-singleton m); in-case = refl; answering = e }
+compatible-answers r t p s (Known i) (GloballyFresh j) size l g h e m =
+    record { case = Held; within = tt; leads = sym (List·Memᴰ·eq-of-singleton m); in-case = refl; answering = e }
 compatible-answers r t p s (LocallyFresh i) (Known j) size l g h e m =
+    let alone = eq-eqb (partner p (other s) j) 0 (fresh-answers (partner p (other s) j) i e) in
     let held = sym (List·Memᴰ·eq-of-singleton m) in
-    record { case = Private j; within = (l, g); leads = held; in-case = and-intro _ _ h e; answering = eq-eqb j j refl }
+    record { case = Private j; within = (l, g); leads = held; in-case = and-intro _ _ h alone; answering = eq-eqb j j refl }
 compatible-answers r t p s (LocallyFresh i) (LocallyFresh j) size l g h e m = locally-fresh-answers r t p s i j size m
 compatible-answers r t p s (LocallyFresh i) (GloballyFresh j) size l g h e m =
     record { case = New; within = tt; leads = sym (List·Memᴰ·eq-of-singleton m); in-case = refl; answering = refl }
-compatible-answers r t p s (GloballyFresh i) (Known j) size l g h e m = absurd (false≢true e)
+compatible-answers r t p s (GloballyFresh i) (Known j) size l g h e m = absurd (none-answers (partner p (other s) j) i e)
 compatible-answers r t p s (GloballyFresh i) (LocallyFresh j) size l g h e m =
     record { case = New; within = tt; leads = sym (List·Memᴰ·eq-of-singleton m); in-case = refl; answering = refl }
 compatible-answers r t p s (GloballyFresh i) (GloballyFresh j) size l g h e m =
     record { case = New; within = tt; leads = sym (List·Memᴰ·eq-of-singleton m); in-case = refl; answering = refl }
 
 -- in a legal position it is the same from the other side
-compatible-other : {r : ℕ} {t : Task} {p : Position} → Legal r t p → (s : Side) (own others : EdgeKind)
+compatible-other : {r : ℕ} {t : Task} {p : Position} → Legal r t p → (s : Side) (own others : EdgeKind) → 1 ≤ registerOf own
     → 1 ≤ registerOf others → compatible p s own others ≡ true → compatible p (other s) others own ≡ true
 unfolding compatible
-compatible-other {p = p} l s (Known i) (Known j) g e =
-    eq-eqb _ _ (partner-mutual l s i j g (eqb-true (partner p s i) j e))
-compatible-other l Left (Known i) (LocallyFresh j) g e = e
-compatible-other l Right (Known i) (LocallyFresh j) g e = e
-compatible-other l s (Known i) (GloballyFresh j) g e = e
-compatible-other l s (LocallyFresh i) (Known j) g e = e
-compatible-other l s (LocallyFresh i) (LocallyFresh j) g e = e
-compatible-other l s (LocallyFresh i) (GloballyFresh j) g e = e
-compatible-other l s (GloballyFresh i) (Known j) g e = e
-compatible-other l s (GloballyFresh i) (LocallyFresh j) g e = e
-compatible-other l s (GloballyFresh i) (GloballyFresh j) g e = e
+compatible-other {p = p} l s (Known i) (Known j) f g e =
+    partner-answers (partner p (other s) j) i f (partner-mutual l s i j g (known-answers (partner p s i) j e))
+compatible-other l Left (Known i) (LocallyFresh j) f g e = e
+compatible-other l Right (Known i) (LocallyFresh j) f g e = e
+compatible-other l Left (Known i) (GloballyFresh j) f g e = e
+compatible-other l Right (Known i) (GloballyFresh j) f g e = e
+compatible-other l s (LocallyFresh i) (Known j) f g e = e
+compatible-other l s (LocallyFresh i) (LocallyFresh j) f g e = e
+compatible-other l s (LocallyFresh i) (GloballyFresh j) f g e = e
+compatible-other l s (GloballyFresh i) (Known j) f g e = e
+compatible-other l s (GloballyFresh i) (LocallyFresh j) f g e = e
+compatible-other l s (GloballyFresh i) (GloballyFresh j) f g e = e
 
 -- ── Pairs of edges ──
 
@@ -257,6 +286,7 @@ module _ {r : ℕ} {t : Task} (valid : Valid r t) {p : Position} (l : Legal r t 
         tag = rw (other-other s) (sym (x .tag));
         joint =
             rw (other-other s)
-            (compatible-other l s _ _ (valid-side valid (other s) .edges j (x .other-exists) .least) (x .joint));
+            (compatible-other l s _ _ (valid-side valid s .edges k (x .exists) .least)
+            (valid-side valid (other s) .edges j (x .other-exists) .least) (x .joint));
         sized = rw (other-other s, sizes-other _ _ _ (edgeOf (modelOf t s) k .kind) _) (x .sized);
       }

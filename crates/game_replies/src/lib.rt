@@ -4,12 +4,15 @@ use fra::EdgeKind;
 use fra::IdCase;
 use fra::Position;
 use fra::Side;
+use fra::left_partner;
+use fra::right_partner;
 use game_index::Range;
 use game_index::layout::SIZE;
 use game_moves::rounds;
 use game_moves::rounds::Target;
 ghost use mathlib.Core.Path.{_≡_};
 ghost use mathlib.Core.Bool.{cond};
+ghost use lib.ListN.{length};
 ghost use Rattle.fra.specs.Model.{isLocallyFresh, isFresh};
 ghost use Rattle.fra.specs.Game.{answers, isReply};
 ghost use Rattle.fra.specs.declared.Side.the-variants.{Left};
@@ -136,27 +139,20 @@ fn answers(partner: u8, case: IdCase, kind: EdgeKind) -> bool
     }
 }
 
-// A left and a right edge of these kinds can take one number in a round.
-pub fn joint(p: Position, left: EdgeKind, right: EdgeKind) -> bool
-    ensures { λ r. ⌜ r ≡ compatible p Left left right ⌝ }
+// A left and a right edge of these kinds can take one number in a round, where the registers have these partners: if one of them is
+// known, the other answers an attack with it; if both are fresh, they take a new number. The matching is not copied.
+pub fn joint(partners: &[u8], left: EdgeKind, right: EdgeKind) -> bool
+    requires { ⌜ length (now partners) ≡ 6 ⌝ }
+    ensures { λ r. ⌜ ((p : Position) → p .partners ≡ now (partners .entry) → r ≡ compatible p Left left right) ⌝ }
 {
-    match left {
-        EdgeKind::Known(i) => match right {
-            EdgeKind::Known(j) => p.partner(Side::Left, i) == j,
-            EdgeKind::LocallyFresh(_) => p.partner(Side::Left, i) == 0,
-            EdgeKind::GloballyFresh(_) => false,
-        },
-        EdgeKind::LocallyFresh(_) => match right {
-            EdgeKind::Known(j) => p.partner(Side::Right, j) == 0,
-            EdgeKind::LocallyFresh(_) => true,
-            EdgeKind::GloballyFresh(_) => true,
-        },
-        EdgeKind::GloballyFresh(_) => match right {
-            EdgeKind::Known(_) => false,
-            EdgeKind::LocallyFresh(_) => true,
-            EdgeKind::GloballyFresh(_) => true,
-        },
+    let held = IdCase::Held;
+    if !left.is_fresh() {
+        return answers(right_partner(partners, left.register()), held, right);
     }
+    if !right.is_fresh() {
+        return answers(left_partner(partners, right.register()), held, left);
+    }
+    true
 }
 
 // The first reply to a challenge from an edge on. It is looked for among the edges that have the attack's tag.

@@ -104,7 +104,8 @@ pub fn settled(
 ) -> bool
     requires { ⌜ Searchable (judge .records) (now list) ⌝ }
     requires { ⌜ Index (now index) × (challenge ≡ challengeOf (taskIn (now index)) p (attackOf challenge)) ⌝ }
-    ensures { λ r. ⌜ r ≡ winsBy (taskIn (now (index .entry))) (judgedAmong (now (losing .entry)) (now (list .entry)) judge) p (attackOf challenge) ⌝ }
+    ensures { λ r. ⌜ r ≡ winsBy (taskIn (now (index .entry))) (judgedAmong (now (losing .entry)) (now (list .entry)) judge) p
+        (attackOf challenge) ⌝ }
 {
     let edges = challenge.edges;
     let mut from = edges.first;

@@ -6,13 +6,11 @@ use mathlib.Core.Bool.{true, not, _&&_}
 use lib.Dec.{eqb}
 use denote.Ref.{now}
 use borrow.Author.Needs.{needs}
-use borrow.Author.Tests.{not-true, not-false}
 use Rattle.fra.specs.declared.Side.the-variants.{Left}
 use Rattle.fra_laws.specs.Joint.{compatible}
-use Rattle.fra_laws.proofs.Tests.{not-both}
 use Rattle.game_moves.specs.HistorySizes.{firstSize}
 use Rattle.comparer_explore_laws.specs.Growth.{Completes}
-use Rattle.comparer_explore_laws.proofs.Growth.{completes-as, overflows-as, completes-none}
+use Rattle.comparer_explore_laws.proofs.Growth.{completes-as, overflows-as}
 use Rattle.comparer_explore_laws.proofs.PairKeys.{keyAfter, seenToo, first-key, seen-key, either-key, first-key-alone}
 use Rattle.table_laws.specs.Keys.{keyOf}
 use Rattle.comparer_explore.specs.ExploreAnswers.{Visited}
@@ -21,35 +19,28 @@ use Rattle.comparer_explore.proofs.Visited.{visited-as, visited-then}
 use Rattle.comparer_explore.proofs.expand.visit_pair.Statement.{statement}
 use Rattle.comparer_explore.proofs.expand.visit_pair.Tie as tie
 
-returns : tie.Need-returns
-returns c =
-    let apart = sym (c .before .joint .ensures) ∙ not-true _ (c .if1 .taken) in
-    completes-none (c .before .before .before .pre .0) (λ k w. not-both _ (w .0) apart)
-
 visit-requires : tie.Need-visit-requires
 visit-requires c κs =
-    let start = c .before .before .before .before .before .before .before .before in
+    let start = c .before .before .before .before .before .before in
     (start .pre .0, c .key-after .ensures .1)
 
 -- the two edges can take one number
 joint : (c : tie.After-visit)
-    → let a = c .before .before .before .before .before .before .before .before .before .args in
+    → let a = c .before .before .before .before .before .before .before .args in
     compatible (a .p) Left (a .left .kind) (a .right .kind) ≡ true
-joint c =
-    let tested = c .before .before .before .before .before .before in
-    sym (tested .before .joint .ensures) ∙ not-false _ (tested .if1 .left)
+joint c = c .before .before .before .before .before .before .before .pre .1 .1
 
 -- the first visit is of the key of the first size
 first : (c : tie.After-visit)
-    → let a = c .before .before .before .before .before .before .before .before .before .args in
+    → let a = c .before .before .before .before .before .before .before .args in
     let size = firstSize 6 (a .p .history) (a .left .kind) (a .right .kind) in
     Visited (λ k. k ≡ keyAfter (a .room) (a .p) (a .left) (a .right) size) (a .n) (now (a .table)) (c .visit .result)
     (c .visit .last .0)
 first c =
     let key = c .before in
-    let a = key .before .before .before .before .before .before .before .before .args in
-    let start = key .before .before .before .before .before .before .before .before in
-    let halves = both-halves (a .p) (a .half) (key .before .before .size-after .result) (a .left .target) (a .right .target) (start .pre .1) in
+    let a = key .before .before .before .before .before .before .args in
+    let start = key .before .before .before .before .before .before in
+    let halves = both-halves (a .p) (a .half) (key .before .before .size-after .result) (a .left .target) (a .right .target) (start .pre .1 .0) in
     let e =
     key .key-after .ensures .0
     ∙ ap keyOf halves
@@ -60,16 +51,16 @@ first c =
 same-length : tie.Need-same-length
 same-length c = c .before .before .before .before .visit .kept .0
 
-returns-2 : tie.Need-returns-2
-returns-2 c =
+returns : tie.Need-returns
+returns c =
     let call = c .before .before .before .before in
-    let a = call .before .before .before .before .before .before .before .before .before .args in
+    let a = call .before .before .before .before .before .before .before .args in
     overflows-as (first-key (a .room) (a .p) (a .left) (a .right) (joint call)) (rw (c .enum-told .given .1) at (first call))
 
 -- it found room
 done : (c : tie.After-also-seen)
     → let call = c .before .before .before .before .before .before .before in
-    let a = call .before .before .before .before .before .before .before .before .before .args in
+    let a = call .before .before .before .before .before .before .before .args in
     let size = firstSize 6 (a .p .history) (a .left .kind) (a .right .kind) in
     Completes (λ k. k ≡ keyAfter (a .room) (a .p) (a .left) (a .right) size) (a .n) (now (a .table))
     (c .before .before .before .m .given .0 .0) (call .visit .last .0)
@@ -81,7 +72,7 @@ done c =
 tried : (c : tie.After-also-seen)
     → let call = c .before .before .before .before .before .before .before in
     let sized = call .before .before .before in
-    let a = sized .before .before .before .before .before .before .args in
+    let a = sized .before .before .before .before .args in
     (a .room && not (eqb (sized .size-after .result) (a .p .history)) && c .also-seen .result)
     ≡ seenToo (a .room) (a .p) (a .left) (a .right)
 tried c =
@@ -97,16 +88,16 @@ same-length-2 c =
     let call = again .before .before .before .before .before .before .before .before .before .before .before in
     again .visit2 .kept .0 ∙ call .visit .kept .0
 
-returns-3 : tie.Need-returns-3
-returns-3 c =
+returns-2 : tie.Need-returns-2
+returns-2 c =
     let again = c .before .before in
     let test = again .before .before .before in
     let call = test .before .before .before .before .before .before .before .before in
-    let a = call .before .before .before .before .before .before .before .before .before .args in
-    let start = call .before .before .before .before .before .before .before .before .before in
-    let halves = both-halves (a .p) (a .half) (a .p .history) (a .left .target) (a .right .target) (start .pre .1) in
+    let a = call .before .before .before .before .before .before .before .args in
+    let start = call .before .before .before .before .before .before .before in
+    let halves = both-halves (a .p) (a .half) (a .p .history) (a .left .target) (a .right .target) (start .pre .1 .0) in
     let e = again .before .key-after2 .ensures .0 ∙ ap keyOf halves in
-    let seen = sym (tried (test .before)) ∙ test .if2 .taken in
+    let seen = sym (tried (test .before)) ∙ test .if1 .taken in
     visited-then (again .visit2 .result) (again .visit2 .last .0)
     (first-key (a .room) (a .p) (a .left) (a .right) (joint call))
     (λ k d. seen-key (a .room) (a .p) (a .left) (a .right) (joint call) seen k (d ∙ e))
@@ -116,11 +107,11 @@ returns-3 c =
 same-length-3 : tie.Need-same-length-3
 same-length-3 c = c .before .before .before .before .before .before .before .before .visit .kept .0
 
-returns-4 : tie.Need-returns-4
-returns-4 c =
+returns-3 : tie.Need-returns-3
+returns-3 c =
     let call = c .before .before .before .before .before .before .before .before in
-    let a = call .before .before .before .before .before .before .before .before .before .args in
-    let alone = sym (tried (c .before)) ∙ c .if2 .left in
+    let a = call .before .before .before .before .before .before .before .args in
+    let alone = sym (tried (c .before)) ∙ c .if1 .left in
     completes-as (first-key (a .room) (a .p) (a .left) (a .right) (joint call))
     (first-key-alone (a .room) (a .p) (a .left) (a .right) alone) (done (c .before))
 
@@ -129,18 +120,16 @@ visit-pair-spec =
     tie.close
     (tie.spec
     (λ c κs. search needs)
-    returns
-    (λ c κs. search needs)
     (λ c κs. search needs)
     visit-requires
     (λ c. search needs)
     (λ c. search needs)
     same-length
-    returns-2
+    returns
     (λ c κs. search needs)
     (λ c κs. search needs)
     visit-requires-2
     same-length-2
-    returns-3
+    returns-2
     same-length-3
-    returns-4)
+    returns-3)

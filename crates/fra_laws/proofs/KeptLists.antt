@@ -25,18 +25,6 @@ module _ {A : Type 0} where
       step true p q r = rw (keep-passes f x l p, keep-passes g x l q, r)
       step false p q r = rw (keep-fails f x l p, keep-fails g x l q, r)
 
-  -- one test after another
-  pub keep-keep : (f g : A → Bool) (l : List A) → keep f (keep g l) ≡ keep (λ x. g x && f x) l
-  unfolding keep
-  keep-keep f g [] = refl
-  keep-keep f g (x ∷ l) = step (g x) refl (f x) refl (keep-keep f g l)
-    where
-      step : (b : Bool) → g x ≡ b → (c : Bool) → f x ≡ c → keep f (keep g l) ≡ keep (λ x. g x && f x) l
-          → keep f (keep g (x ∷ l)) ≡ keep (λ x. g x && f x) (x ∷ l)
-      step true p true q r = rw (keep-passes g x l p, keep-passes f x (keep g l) q, keep-passes (λ x. g x && f x) x l (rw (p, q)), r)
-      step true p false q r = rw (keep-passes g x l p, keep-fails f x (keep g l) q, keep-fails (λ x. g x && f x) x l (rw (p, q)), r)
-      step false p c q r = rw (keep-fails g x l p, keep-fails (λ x. g x && f x) x l (rw p), r)
-
   -- a test of which a part is the same for all
   pub keep-and : (b : Bool) (f : A → Bool) (l : List A) → keep (λ x. b && f x) l ≡ cond b (keep f l) []
   unfolding keep

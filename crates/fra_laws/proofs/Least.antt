@@ -30,17 +30,6 @@ module _ (f : ℕ → Bool) (i n : ℕ) where
   unfolding least
   least-end p = let e : n - i ≡ 0 = omega arith in rw e
 
--- two tests that agree on the numbers tried find the same
-pub least-same : (f g : ℕ → Bool) (i n : ℕ) → ((j : ℕ) → i ≤ j → j < i + n → f j ≡ g j) → least f i n ≡ least g i n
-unfolding least
-least-same f g i zero h = refl
-least-same f g i (suc n) h =
-    step (g i) (h i (omega arith) (omega arith)) refl (least-same f g (suc i) n (λ j p q. h j (omega arith) (omega arith)))
-  where
-    step : (b : Bool) → f i ≡ b → g i ≡ b → least f (suc i) n ≡ least g (suc i) n → least f i (suc n) ≡ least g i (suc n)
-    step true p q r = rw (p, q, least)
-    step false p q r = rw (p, q, least) r
-
 module _ {A : Type 0} (f : A → Bool) (l : List A) (d : A) where
   -- the element at this place passes
   abbrev pub test : ℕ → Bool

@@ -14,7 +14,7 @@ ghost use Rattle.fra.specs.Model.{setOf, markOf, edgeOf};
 ghost use Rattle.fra.specs.Position.{hasRoom};
 ghost use Rattle.fra.specs.Game.{lostAtOnce};
 ghost use Rattle.game_moves.specs.AfterRound.{targetOf};
-ghost use Rattle.game_index.specs.Layout.{codes, sideWidth};
+ghost use Rattle.game_index.specs.Layout.{edgePlaces, codes, sideWidth};
 ghost use Rattle.game_index.specs.Reading.{sideByte, modelIn, startIn, taskIn, gameIn, rulesIn};
 ghost use Rattle.game_index.specs.Ranges.{firstEdge, stateRange, tagRange};
 ghost use Rattle.game_index.specs.Writing.{Index};
@@ -117,13 +117,11 @@ pub fn has_room(index: &[u8; layout::SIZE], p: Position) -> bool
     rounds::has_room(p, left, right)
 }
 
-// What the edge with this number takes, or what stands past the edges.
+// What the edge with this number takes.
 pub fn kind_at(index: &[u8; layout::SIZE], side: Side, k: u8) -> EdgeKind
+    requires { ⌜ k < edgePlaces ⌝ }
     ensures { λ r. ⌜ r ≡ edgeOf (modelIn (now (index .entry)) side) k .kind ⌝ }
 {
-    if Model::EDGES <= k {
-        return EdgeKind::Known(0);
-    }
     let at = layout::EDGES + layout::EDGE * (k as usize);
     let number = byte_of(index, side, at + layout::KIND);
     EdgeKind::of(number, byte_of(index, side, at + layout::REGISTER))
@@ -177,15 +175,9 @@ pub fn lost_at_once(index: &[u8; layout::SIZE], p: Position) -> bool
 // Where the edge with this number leads.
 pub fn target_at(index: &[u8; layout::SIZE], side: Side, k: u8) -> Target
     requires { ⌜ Index (now index) ⌝ }
+    requires { ⌜ k < edgePlaces ⌝ }
     ensures { λ r. ⌜ r ≡ targetOf (modelIn (now (index .entry)) side) (edgeOf (modelIn (now (index .entry)) side) k) ⌝ }
 {
-    if Model::EDGES <= k {
-        return Target {
-            register: 0,
-            state: 0,
-            set: set_of(index, side, 0),
-        };
-    }
     let at = layout::EDGES + layout::EDGE * (k as usize);
     Target {
         register: byte_of(index, side, at + layout::REGISTER),
@@ -194,11 +186,22 @@ pub fn target_at(index: &[u8; layout::SIZE], side: Side, k: u8) -> Target
     }
 }
 
-// What the edge with this number takes, and where it leads.
+// What the edge with this number takes, and where it leads; or what stands past the edges.
 pub fn transition_at(index: &[u8; layout::SIZE], side: Side, k: u8) -> Transition
     requires { ⌜ Index (now index) ⌝ }
     ensures { λ r. ⌜ r ≡ transitionOf (modelIn (now (index .entry)) side) k ⌝ }
 {
+    if Model::EDGES <= k {
+        let target = Target {
+            register: 0,
+            state: 0,
+            set: set_of(index, side, 0),
+        };
+        return Transition {
+            kind: EdgeKind::Known(0),
+            target,
+        };
+    }
     let kind = kind_at(index, side, k);
     let target = target_at(index, side, k);
     Transition { kind, target }

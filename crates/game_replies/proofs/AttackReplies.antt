@@ -1,6 +1,6 @@
 -- The replies to an attack among the edges of its challenge: all of them stand in its range, there the kind alone decides, and they
 -- lead where the challenge says. Assumes nothing.
-use Prim.Native.Nat.{ℕ, _-_, _≤_, _<_}
+use Prim.Native.Nat.{ℕ, _-_, _%_, _≤_, _<_}
 use mathlib.Core.Path.{_≡_, refl, sym}
 use mathlib.Core.Bool.{true, false}
 use mathlib.Core.List.{List}
@@ -21,9 +21,10 @@ use Rattle.fra_laws.proofs.Tests.{fails-unless}
 use Rattle.fra_laws.proofs.Least.{keep-skip}
 use Rattle.fra_laws.proofs.AttackMembers.{reply-facts}
 use Rattle.game_moves.specs.AfterRound.{targetOf, movedTo}
+use Rattle.game_index.specs.Layout.{edgePlaces}
 use Rattle.game_index.specs.Reading.{taskIn}
 use Rattle.game_index.specs.Writing.{Index}
-use Rattle.game_index.proofs.Reading.{model-in, index-model, sized-in}
+use Rattle.game_index.proofs.Reading.{model-in, index-model, sized-in, few-edges}
 use Rattle.game_index.proofs.EdgeRanges.{tag-inside, tag-range-edge}
 use Rattle.game_replies.specs.Challenges.{challengeOf, afterReply}
 use Rattle.game_replies.specs.ReplySearch.{replier, repliesFrom}
@@ -59,6 +60,10 @@ module _ {b : List ℕ} (h : Index b) (p : Position) (a : Attack) where
       (tag-inside (index-model h away) (sized-in b away) (stateOf p away) (attackEdge t a .tag) k
       (rw (← model-in b away) (record { exists = r .exists; starts = r .starts; tagged = r .tag })))
 
+  -- an edge that exists has a place, so its number is its remainder
+  pub placed : (k : ℕ) → k < replier t a .«edge_count» → k % edgePlaces ≡ k
+  placed k c = omega (arith, few-edges h away)
+
   -- edges before the range and past it are no replies
   pub none-before : (k : ℕ) → k < asked .edges .first → isReply t p a k ≡ false
   none-before k c = fails-unless (isReply t p a k) (λ e. omega (arith, reply-inside k e .0))
@@ -68,13 +73,13 @@ module _ {b : List ℕ} (h : Index b) (p : Position) (a : Attack) where
 
   -- an edge of the range is a reply if its kind answers
   pub by-kind : (k : ℕ) → asked .edges .first ≤ k → k < asked .edges .end
-      → isReply t p a k ≡ answers (asked .partner) (a .case) (edgeOf (replier t a) k .kind)
+      → isReply t p a k ≡ answers (asked .partner) (a .case) (edgeOf (replier t a) (k % edgePlaces) .kind)
   unfolding isReply
   by-kind k i c =
       let edge = rw (← model-in b away) at
       (tag-range-edge (index-model h away) (sized-in b away) (stateOf p away) (attackEdge t a .tag) k (rw (← model-in b away) i)
       (rw (← model-in b away) c)) in
-      rw (lt-ltb _ _ (edge .exists), eq-eqb _ _ (edge .starts), eq-eqb _ _ (edge .tagged))
+      rw (placed k (edge .exists), lt-ltb _ _ (edge .exists), eq-eqb _ _ (edge .starts), eq-eqb _ _ (edge .tagged))
 
   -- those from the range's first edge on are all
   pub all-replies : repliesFrom t p a (asked .edges .first) ≡ replies t p a

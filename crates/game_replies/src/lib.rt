@@ -2,6 +2,7 @@
 use fra::Attack;
 use fra::EdgeKind;
 use fra::IdCase;
+use fra::Model;
 use fra::Position;
 use fra::Side;
 use fra::left_partner;
@@ -43,7 +44,8 @@ impl Challenge {
         let case = a.case;
         let away = side.other();
         let e = game_index::edge_at(index, side, a.edge);
-        let target = game_index::target_at(index, side, a.edge);
+        let transition = game_index::transition_at(index, side, a.edge);
+        let target = transition.target;
         let edges = game_index::tagged(index, away, p.state(away), e.tag);
         Challenge {
             side,
@@ -85,7 +87,8 @@ impl Challenge {
         }
         let side = self.side;
         let case = self.case;
-        let kind = game_index::kind_at(index, side.other(), k);
+        // The edges of a range are below the places for edges: the remainder costs no jump, as a comparison would.
+        let kind = game_index::kind_at(index, side.other(), k % Model::EDGES);
         answers(self.partner, case, kind)
     }
 
@@ -166,7 +169,8 @@ pub fn next_reply(index: &[u8; SIZE], challenge: Challenge, from: u8) -> Reply
     let mut k = from;
     while k < edges.end {
         if challenge.is_reply(index, k) {
-            return Reply::To(game_index::target_at(index, side.other(), k), k);
+            let target = game_index::target_at(index, side.other(), k % Model::EDGES);
+            return Reply::To(target, k);
         }
         k += 1;
     }

@@ -2,20 +2,17 @@
 use mathlib.Core.Path.{_∙_}
 use borrow.Author.Needs.{needs}
 use Rattle.fra_laws.proofs.KindNumbers.{register-of-kind}
-use Rattle.game_index.proofs.Reading.{edge-in, no-edge}
+use Rattle.game_index.proofs.Reading.{edge-in}
 use Rattle.game_index.proofs.target_at.Statement.{statement}
 use Rattle.game_index.proofs.target_at.Tie as tie
 
 returns : tie.Need-returns
-returns c = rw (no-edge _ _ _ (c .before .if1 .taken)) (rw (c .set-of .ensures))
-
-returns-2 : tie.Need-returns-2
-returns-2 c =
+returns c =
     let read = c .before .before in
-    let start = read .before .before in
+    let start = read .before in
     let a = start .args in
-    let exists = read .before .if1 .left in
-    let set = c .byte-of3 .ensures ∙ start .pre .to-sets (a .side) (a .k) exists in
+    let exists = start .pre .1 in
+    let set = c .byte-of3 .ensures ∙ start .pre .0 .to-sets (a .side) (a .k) exists in
     rw (read .byte-of .ensures, c .before .byte-of2 .ensures, set)
     (rw (edge-in (a .index .now) (a .side) (a .k) exists, register-of-kind))
 
@@ -23,8 +20,6 @@ pub target-at-spec : {M : Type 1} → statement M
 target-at-spec =
     tie.close
     (tie.spec
-    (λ c κs. search needs)
-    returns
     (λ c. search needs)
     (λ c. search needs)
     (λ c. search needs)
@@ -33,4 +28,4 @@ target-at-spec =
     (λ c κs. search needs)
     (λ c. search needs)
     (λ c κs. search needs)
-    returns-2)
+    returns)

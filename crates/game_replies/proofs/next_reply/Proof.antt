@@ -8,11 +8,12 @@ use borrow.Author.Needs.{needs}
 use Rattle.fra.specs.Rules.{other}
 use Rattle.fra.specs.declared.Position.{Position}
 use Rattle.fra.specs.declared.Attack.{Attack}
+use Rattle.fra_laws.proofs.AttackMembers.{reply-facts}
 use Rattle.game_index.specs.Reading.{taskIn}
 use Rattle.game_index.proofs.Reading.{model-in}
 use Rattle.game_replies.specs.Challenges.{challengeOf}
 use Rattle.game_replies.specs.ReplySearch.{replyFrom}
-use Rattle.game_replies.proofs.AttackReplies.{none-past}
+use Rattle.game_replies.proofs.AttackReplies.{placed, none-past}
 use Rattle.game_replies.proofs.ReplySearch.{reply-here, reply-later, reply-none}
 use Rattle.game_replies.proofs.next_reply.Statement.{statement}
 use Rattle.game_replies.proofs.next_reply.Tie as tie
@@ -32,12 +33,15 @@ returns : tie.Need-returns Inv-loop μ-loop
 returns c = λ p a e.
     let tested = c .before .before .before in
     let at-loop = tested .before .before .before in
-    let b = now (at-loop .before .before .args .index) in
+    let start = at-loop .before .before in
+    let b = now (start .args .index) in
     let k = at-loop .loop .k in
+    let found = sym (tested .is-reply .ensures p a e) ∙ c .before .before .if2 .taken in
+    let same = placed (start .pre) p a k (reply-facts (taskIn b) p a k found .exists) in
     sym
     (at-loop .loop .inv p a e
-    ∙ reply-here (taskIn b) p a k (sym (tested .is-reply .ensures p a e) ∙ c .before .before .if2 .taken)
-    ∙ rw (c .target-at .ensures, c .before .other .ensures, e, model-in b (other (a .side))))
+    ∙ reply-here (taskIn b) p a k found
+    ∙ rw (c .target-at .ensures, same, c .before .other .ensures, e, model-in b (other (a .side))))
 
 loop-again : tie.Need-loop-again Inv-loop μ-loop
 loop-again c = λ p a e.

@@ -9,7 +9,7 @@ use Rattle.game_replies.proofs.Challenge.of.Tie as tie
 returns : tie.Need-returns
 returns c =
     let asked = c .before .before in
-    let read = asked .before in
+    let read = asked .before .before in
     let start = read .before .before .before in
     let b = now (start .args .index) in
     let side = start .args .a .side in
@@ -18,7 +18,7 @@ returns c =
       c .partner .ensures,
       c .before .tagged .ensures,
       asked .state .ensures,
-      read .target-at .ensures,
+      read .transition-at .ensures,
       read .before .edge-at .ensures,
       away,
       model-in b side,

@@ -22,9 +22,9 @@ module _ (t : Task) (p : Position) (a : Attack) where
   abbrev pub leadsFrom : ℕ → List Position
   leadsFrom k = map (after t p a) (repliesFrom t p a k)
 
-  pub leads-next : {c : Challenge} → c ≡ challengeOf t p a → (k : ℕ) {x : Target} {j : ℕ} → NextReply t p a k x j
+  pub leads-next : {c : Challenge} → c ≡ challengeOf t p a → (k : ℕ) {j : ℕ} {x : Target} → NextReply t p a k j x
       → leadsFrom k ≡ afterReply c p x ∷ leadsFrom (j + 1)
-  leads-next e k {x} {j} h = rw (h .first, h .target, e, after-is t p a j)
+  leads-next e k {j} {x} h = rw (h .first, h .target, e, after-is t p a j)
 
 pub leads-all : {b : List ℕ} → Index b → (p : Position) (a : Attack)
     → leadsFrom (taskIn b) p a (challengeOf (taskIn b) p a .edges .first) ≡ attackLeads (taskIn b) p (some a)

@@ -52,7 +52,7 @@ fn mark_replies(table: &mut [u8], n: usize, index: &[u8; SIZE], p: Position, a: 
     let mut from = edges.first;
     loop {
         let reply = next_reply(index, challenge, from);
-        let Reply::To(target, edge) = reply else {
+        let Reply::By(edge, target) = reply else {
             return;
         };
         mark(table, n, challenge.after(p, target));

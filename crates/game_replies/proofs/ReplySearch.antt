@@ -20,7 +20,7 @@ use Rattle.game_moves.specs.AfterRound.{targetOf}
 use Rattle.game_moves.specs.declared.rounds.Target.{Target}
 use Rattle.game_replies.specs.ReplySearch.{replier, repliesFrom, replyAnswer, replyFrom}
 use Rattle.game_replies.specs.declared.Reply.{Reply}
-use Rattle.game_replies.specs.declared.Reply.the-variants.{To, Missing}
+use Rattle.game_replies.specs.declared.Reply.the-variants.{By, Missing}
 
 module _ (t : Task) (p : Position) (a : Attack) (k : ℕ) where
   abbrev count : ℕ
@@ -28,7 +28,7 @@ module _ (t : Task) (p : Position) (a : Attack) (k : ℕ) where
 
   -- ── One edge after another ──
 
-  pub reply-here : isReply t p a k ≡ true → replyFrom t p a k ≡ To (targetOf (replier t a) (edgeOf (replier t a) k)) k
+  pub reply-here : isReply t p a k ≡ true → replyFrom t p a k ≡ By k (targetOf (replier t a) (edgeOf (replier t a) k))
   unfolding replyFrom
   reply-here e = rw (least-here (isReply t p a) k count (reply-facts t p a k e .exists) e)
 
@@ -51,18 +51,18 @@ module _ (t : Task) (p : Position) (a : Attack) (k : ℕ) where
   found = least (isReply t p a) k (count - k)
 
   -- edge number j is the first reply from number k on, and leads to x
-  pub record NextReply (x : Target) (j : ℕ) : Type 0 where
+  pub record NextReply (j : ℕ) (x : Target) : Type 0 where
     pub from : k ≤ j
     pub exists : j < count
     pub target : x ≡ targetOf (replier t a) (edgeOf (replier t a) j)
     pub first : repliesFrom t p a k ≡ j ∷ repliesFrom t p a (j + 1)
 
   module _ {r : Reply} (e : r ≡ replyFrom t p a k) where
-    pub reply-found : {x : Target} {j : ℕ} → r ≡ To x j → NextReply x j
+    pub reply-found : {j : ℕ} {x : Target} → r ≡ By j x → NextReply j x
     unfolding replyFrom repliesFrom
-    reply-found {x} {j} d = step found refl (sym e ∙ d)
+    reply-found {j} {x} d = step found refl (sym e ∙ d)
       where
-        step : (o : Option ℕ) → found ≡ o → replyAnswer (replier t a) o ≡ To x j → NextReply x j
+        step : (o : Option ℕ) → found ≡ o → replyAnswer (replier t a) o ≡ By j x → NextReply j x
         step none f g = clash (cc)
         step (some i) f g =
             let same : i ≡ j = cc in

@@ -12,7 +12,7 @@ use Rattle.fra.specs.declared.Task.{Task}
 use Rattle.fra.specs.declared.Attack.{Attack}
 use Rattle.game_moves.specs.AfterRound.{targetOf}
 use Rattle.game_replies.specs.declared.Reply.{Reply}
-use Rattle.game_replies.specs.declared.Reply.the-variants.{To, Missing}
+use Rattle.game_replies.specs.declared.Reply.the-variants.{By, Missing}
 
 -- the model of the side that replies
 abbrev pub replier : Task → Attack → Model
@@ -25,7 +25,7 @@ repliesFrom t p a k = keep (isReply t p a) (count k (replier t a .«edge_count»
 -- an edge that was found, as the answer
 abbrev pub replyAnswer : Model → Option ℕ → Reply
 replyAnswer m none = Missing
-replyAnswer m (some k) = To (targetOf m (edgeOf m k)) k
+replyAnswer m (some k) = By k (targetOf m (edgeOf m k))
 
 -- the first of them: of several replies the one with the lowest number
 unfoldable pub replyFrom : Task → Position → Attack → ℕ → Reply

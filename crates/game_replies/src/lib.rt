@@ -107,9 +107,9 @@ impl Challenge {
     }
 }
 
-// A reply, by where it leads and its edge's number; or there is none.
+// A reply: the number of its edge in its model, and where that edge leads; or none is left.
 pub enum Reply {
-    To(Target, u8),
+    By(u8, Target),
     Missing,
 }
 
@@ -170,7 +170,7 @@ pub fn next_reply(index: &[u8; SIZE], challenge: Challenge, from: u8) -> Reply
     while k < edges.end {
         if challenge.is_reply(index, k) {
             let target = game_index::target_at(index, side.other(), k % Model::EDGES);
-            return Reply::To(target, k);
+            return Reply::By(k, target);
         }
         k += 1;
     }

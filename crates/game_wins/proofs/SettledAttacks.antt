@@ -28,10 +28,10 @@ module _ (lost : Position → Bool) (t : Task) (p : Position) (a : Attack) where
     unfolding winsFrom all
     wins-none e = rw e
 
-    pub wins-next : {c : Challenge} → c ≡ challengeOf t p a → {x : Target} {j : ℕ} → NextReply t p a k x j
+    pub wins-next : {c : Challenge} → c ≡ challengeOf t p a → {j : ℕ} {x : Target} → NextReply t p a k j x
         → winsFrom k ≡ (lost (afterReply c p x) && winsFrom (j + 1))
     unfolding winsFrom all
-    wins-next e {x} {j} h = rw (h .first, h .target, e, after-is t p a j)
+    wins-next e {j} {x} h = rw (h .first, h .target, e, after-is t p a j)
 
 -- those from the range's first edge on are all
 pub wins-all : {b : List ℕ} → Index b → (lost : Position → Bool) (p : Position) (a : Attack)

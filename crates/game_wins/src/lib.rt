@@ -111,7 +111,7 @@ pub fn settled(
     let mut from = edges.first;
     loop {
         let reply = next_reply(index, challenge, from);
-        let Reply::To(target, edge) = reply else {
+        let Reply::By(edge, target) = reply else {
             return true;
         };
         if !leads_to_lost(list, judge, losing, p, challenge, target) {

@@ -47,7 +47,7 @@ left : (c : tie.After-leads-to-lost Inv-loop μ-loop) → let found = c .before 
     let lost = judgedAmong (now (a .losing)) (now (a .list)) (a .judge) in
     winsBy (taskIn (now (a .index))) lost (a .p) (attackOf (a .challenge))
     ≡ (c .leads-to-lost .result
-    && winsFrom lost (taskIn (now (a .index))) (a .p) (attackOf (a .challenge)) (found .reply .given .0 .1 .0 + 1))
+    && winsFrom lost (taskIn (now (a .index))) (a .p) (attackOf (a .challenge)) (found .reply .given .0 .0 + 1))
 left c =
     let at-loop = c .before .before .before .before .before in
     let start = at-loop .before .before .before in

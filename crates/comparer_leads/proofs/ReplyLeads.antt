@@ -1,5 +1,4 @@
--- Where the replies to an attack lead, from one edge on; from the first edge of its challenge on, that is where the attack leads.
--- Assumes nothing.
+-- Where the replies to an attack lead, from one edge on. Assumes nothing.
 use Prim.Native.Nat.{ℕ, _+_}
 use mathlib.Core.Path.{_≡_}
 use mathlib.Core.List.{List, _∷_, map}
@@ -10,13 +9,11 @@ use Rattle.fra.specs.declared.Task.{Task}
 use Rattle.fra.specs.declared.Attack.{Attack}
 use Rattle.outcome.specs.Certificate.{attackLeads}
 use Rattle.game_moves.specs.declared.rounds.Target.{Target}
-use Rattle.game_index.specs.Reading.{taskIn}
-use Rattle.game_index.specs.Writing.{Index}
 use Rattle.game_replies.specs.Challenges.{challengeOf, afterReply}
 use Rattle.game_replies.specs.ReplySearch.{repliesFrom}
 use Rattle.game_replies.specs.declared.Challenge.{Challenge}
-use Rattle.game_replies.proofs.ReplySearch.{NextReply}
-use Rattle.game_replies.proofs.AttackReplies.{after-is, all-replies}
+use Rattle.game_replies.proofs.ReplySearch.{NextReply, all-replies}
+use Rattle.game_replies.proofs.AttackReplies.{after-is}
 
 module _ (t : Task) (p : Position) (a : Attack) where
   abbrev pub leadsFrom : ℕ → List Position
@@ -26,7 +23,7 @@ module _ (t : Task) (p : Position) (a : Attack) where
       → leadsFrom k ≡ afterReply c p x ∷ leadsFrom (j + 1)
   leads-next e k {j} {x} h = rw (h .first, h .target, e, after-is t p a j)
 
-pub leads-all : {b : List ℕ} → Index b → (p : Position) (a : Attack)
-    → leadsFrom (taskIn b) p a (challengeOf (taskIn b) p a .edges .first) ≡ attackLeads (taskIn b) p (some a)
-unfolding attackLeads
-leads-all h p a = rw (all-replies h p a)
+  -- from edge 0 on, that is where the attack leads
+  pub leads-all : leadsFrom 0 ≡ attackLeads t p (some a)
+  unfolding attackLeads
+  leads-all = rw (all-replies t p a)

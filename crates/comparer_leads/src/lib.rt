@@ -48,8 +48,7 @@ fn mark_replies(table: &mut [u8], n: usize, index: &[u8; SIZE], p: Position, a: 
     ensures { λ _. ⌜ now (table .exit) ≡ markedAll n (attackLeads (taskIn (now (index .entry))) p (some a)) (now (table .entry)) ⌝ }
 {
     let challenge = Challenge::of(index, p, a);
-    let edges = challenge.edges;
-    let mut from = edges.first;
+    let mut from = 0;
     loop {
         let reply = next_reply(index, challenge, from);
         let Reply::By(edge, target) = reply else {

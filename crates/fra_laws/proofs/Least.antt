@@ -101,28 +101,6 @@ module _ (f : ℕ → Bool) where
       let r : i + (n - i) ≡ n = omega arith in
       (p, omega arith, rw r at q)
 
-  -- numbers at which the test fails are skipped
-  pub keep-skip : (i j n : ℕ) → i ≤ j → ((k : ℕ) → i ≤ k → k < j → f k ≡ false)
-      → keep f (count i (n - i)) ≡ keep f (count j (n - j))
-  unfolding count keep
-  keep-skip i j n p fails = go (j - i) i refl p fails
-    where
-      step : (i : ℕ) → Dec (i < n) → f i ≡ false → keep f (count i (n - i)) ≡ keep f (count (suc i) (n - suc i))
-      step i (yes b) e =
-          let more : n - i ≡ suc (n - suc i) = omega arith in
-          rw more (keep-fails f i (count (suc i) (n - suc i)) e)
-      step i (no b) e =
-          let d : n - i ≡ 0 = omega arith in
-          let c : n - suc i ≡ 0 = omega arith in
-          rw (d, c)
-
-      go : (d i : ℕ) → j - i ≡ d → i ≤ j → ((k : ℕ) → i ≤ k → k < j → f k ≡ false)
-          → keep f (count i (n - i)) ≡ keep f (count j (n - j))
-      go zero i e p fails = let same : i ≡ j = omega arith in rw same
-      go (suc d) i e p fails =
-          step i (decLt i n) (fails i (omega arith) (omega arith))
-          ∙ go d (suc i) (omega arith) (omega arith) (λ k a b. fails k (omega arith) b)
-
   -- a test that fails from a number on finds none there
   pub least-fails : (i n : ℕ) → ((k : ℕ) → i ≤ k → f k ≡ false) → least f i (n - i) ≡ none
   least-fails i n fails = step (least f i (n - i)) refl

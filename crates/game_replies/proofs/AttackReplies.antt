@@ -1,7 +1,7 @@
 -- The replies to an attack among the edges of its challenge: all of them stand in its range, there the kind alone decides, and they
 -- lead where the challenge says. Assumes nothing.
-use Prim.Native.Nat.{ℕ, _-_, _%_, _≤_, _<_}
-use mathlib.Core.Path.{_≡_, refl, sym}
+use Prim.Native.Nat.{ℕ, _%_, _≤_, _<_}
+use mathlib.Core.Path.{_≡_, refl}
 use mathlib.Core.Bool.{true, false}
 use mathlib.Core.List.{List}
 use native.Mathlib.Omega.{arith}
@@ -10,7 +10,7 @@ use borrow.Author.Tests.{lt-ltb, eq-eqb}
 use Rattle.fra.specs.Model.{edgeOf}
 use Rattle.fra.specs.Rules.{other, leftOf, rightOf, modelOf}
 use Rattle.fra.specs.Position.{stateOf}
-use Rattle.fra.specs.Game.{attackEdge, answers, replyEdge, isReply, replies, sizeAfter, moved, after}
+use Rattle.fra.specs.Game.{attackEdge, answers, replyEdge, isReply, sizeAfter, moved, after}
 use Rattle.fra.specs.declared.Edge.{Edge}
 use Rattle.fra.specs.declared.Position.{Position}
 use Rattle.fra.specs.declared.Task.{Task}
@@ -18,7 +18,6 @@ use Rattle.fra.specs.declared.Side.{Side}
 use Rattle.fra.specs.declared.Side.the-variants.{Left, Right}
 use Rattle.fra.specs.declared.Attack.{Attack}
 use Rattle.fra_laws.proofs.Tests.{fails-unless}
-use Rattle.fra_laws.proofs.Least.{keep-skip}
 use Rattle.fra_laws.proofs.AttackMembers.{reply-facts}
 use Rattle.game_moves.specs.AfterRound.{targetOf, movedTo}
 use Rattle.game_index.specs.Layout.{edgePlaces}
@@ -27,7 +26,7 @@ use Rattle.game_index.specs.Writing.{Index}
 use Rattle.game_index.proofs.Reading.{model-in, index-model, sized-in, few-edges}
 use Rattle.game_index.proofs.EdgeRanges.{tag-inside, tag-range-edge}
 use Rattle.game_replies.specs.Challenges.{challengeOf, afterReply}
-use Rattle.game_replies.specs.ReplySearch.{replier, repliesFrom}
+use Rattle.game_replies.specs.ReplySearch.{replier}
 use Rattle.game_replies.specs.declared.Challenge.{Challenge}
 
 -- a reply leads where its target says
@@ -80,12 +79,3 @@ module _ {b : List ℕ} (h : Index b) (p : Position) (a : Attack) where
       (tag-range-edge (index-model h away) (sized-in b away) (stateOf p away) (attackEdge t a .tag) k (rw (← model-in b away) i)
       (rw (← model-in b away) c)) in
       rw (placed k (edge .exists), lt-ltb _ _ (edge .exists), eq-eqb _ _ (edge .starts), eq-eqb _ _ (edge .tagged))
-
-  -- those from the range's first edge on are all
-  pub all-replies : repliesFrom t p a (asked .edges .first) ≡ replies t p a
-  unfolding repliesFrom replies
-  all-replies =
-      let whole : replier t a .«edge_count» - 0 ≡ replier t a .«edge_count» = omega arith in
-      sym
-      (rw whole at
-      (keep-skip (isReply t p a) 0 (asked .edges .first) (replier t a .«edge_count») (omega arith) (λ k i c. none-before k c)))

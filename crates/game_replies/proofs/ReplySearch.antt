@@ -1,5 +1,5 @@
 -- The search for replies, from one edge on: what it finds is the first of those that are left. For any task. Assumes nothing.
-use Prim.Native.Nat.{ℕ, _+_, _-_, _≤_, _<_}
+use Prim.Native.Nat.{ℕ, zero, suc, _+_, _-_, _≤_, _<_}
 use mathlib.Core.Path.{_≡_, refl, sym, _∙_}
 use mathlib.Core.Bool.{true, false}
 use mathlib.Core.List.{[], _∷_}
@@ -9,7 +9,7 @@ use native.Mathlib.Omega.{arith}
 use native.Mathlib.Decide.{decLt}
 use Rattle.fra.specs.Lists.{least}
 use Rattle.fra.specs.Model.{edgeOf}
-use Rattle.fra.specs.Game.{isReply}
+use Rattle.fra.specs.Game.{isReply, replies}
 use Rattle.fra.specs.declared.Position.{Position}
 use Rattle.fra.specs.declared.Task.{Task}
 use Rattle.fra.specs.declared.Attack.{Attack}
@@ -82,3 +82,21 @@ module _ (t : Task) (p : Position) (a : Attack) (k : ℕ) where
         step : (o : Option ℕ) → found ≡ o → replyAnswer (replier t a) o ≡ Missing → repliesFrom t p a k ≡ []
         step none f g = keep-none (isReply t p a) k (count - k) f
         step (some i) f g = clash (cc)
+
+module _ (t : Task) (p : Position) (a : Attack) where
+  -- edges that are no replies are passed over
+  pub reply-skip : (k j : ℕ) → k ≤ j → ((i : ℕ) → k ≤ i → i < j → isReply t p a i ≡ false)
+      → replyFrom t p a k ≡ replyFrom t p a j
+  reply-skip k j = go (j - k) k refl
+    where
+      go : (d k : ℕ) → j - k ≡ d → k ≤ j → ((i : ℕ) → k ≤ i → i < j → isReply t p a i ≡ false)
+          → replyFrom t p a k ≡ replyFrom t p a j
+      go zero k e q fails = let same : k ≡ j = omega arith in rw same
+      go (suc d) k e q fails =
+          reply-later t p a k (fails k (omega arith) (omega arith))
+          ∙ go d (k + 1) (omega arith) (omega arith) (λ i l h. fails i (omega arith) h)
+
+  -- those from edge 0 on are all
+  pub all-replies : repliesFrom t p a 0 ≡ replies t p a
+  unfolding repliesFrom replies
+  all-replies = let whole : replier t a .«edge_count» - 0 ≡ replier t a .«edge_count» = omega arith in rw whole

@@ -11,6 +11,7 @@ use game_index::Range;
 use game_index::layout::SIZE;
 use game_moves::rounds;
 use game_moves::rounds::Target;
+ghost use Prim.Native.Nat.{max};
 ghost use mathlib.Core.Path.{_≡_};
 ghost use mathlib.Core.Bool.{cond};
 ghost use lib.ListN.{length};
@@ -158,7 +159,15 @@ pub fn joint(partners: &[u8], left: EdgeKind, right: EdgeKind) -> bool
     true
 }
 
-// The first reply to a challenge from an edge on. It is looked for among the edges that have the attack's tag.
+// The later of two edge numbers.
+fn later(a: u8, b: u8) -> u8
+    ensures { λ r. ⌜ r ≡ max a b ⌝ }
+{
+    if a < b { b } else { a }
+}
+
+// The first reply to a challenge, from an edge's number on. Only the edges of the challenge are looked at; the number found is the
+// edge's number in its model, and not a place among these.
 pub fn next_reply(index: &[u8; SIZE], challenge: Challenge, from: u8) -> Reply
     requires { ⌜ Index (now index) ⌝ }
     ensures { λ r. ⌜ ((p : Position) (a : Attack) → challenge ≡ challengeOf (taskIn (now (index .entry))) p a
@@ -166,7 +175,7 @@ pub fn next_reply(index: &[u8; SIZE], challenge: Challenge, from: u8) -> Reply
 {
     let side = challenge.side;
     let edges = challenge.edges;
-    let mut k = from;
+    let mut k = later(edges.first, from);
     while k < edges.end {
         if challenge.is_reply(index, k) {
             let target = game_index::target_at(index, side.other(), k % Model::EDGES);

@@ -2,21 +2,19 @@
 use Prim.Native.Nat.{ℕ, _+_}
 use mathlib.Core.Path.{_≡_}
 use mathlib.Core.Bool.{Bool, true, _&&_}
-use mathlib.Core.List.{List, []}
+use mathlib.Core.List.{[]}
 use Rattle.fra.specs.Lists.{all}
 use Rattle.fra.specs.Game.{after}
 use Rattle.fra.specs.declared.Position.{Position}
 use Rattle.fra.specs.declared.Task.{Task}
 use Rattle.fra.specs.declared.Attack.{Attack}
 use Rattle.game_moves.specs.declared.rounds.Target.{Target}
-use Rattle.game_index.specs.Reading.{taskIn}
-use Rattle.game_index.specs.Writing.{Index}
 use Rattle.game_replies.specs.Challenges.{challengeOf, afterReply}
 use Rattle.game_replies.specs.ReplySearch.{repliesFrom}
 use Rattle.game_replies.specs.Winner.{winsBy}
 use Rattle.game_replies.specs.declared.Challenge.{Challenge}
-use Rattle.game_replies.proofs.ReplySearch.{NextReply}
-use Rattle.game_replies.proofs.AttackReplies.{after-is, all-replies}
+use Rattle.game_replies.proofs.ReplySearch.{NextReply, all-replies}
+use Rattle.game_replies.proofs.AttackReplies.{after-is}
 
 module _ (lost : Position → Bool) (t : Task) (p : Position) (a : Attack) where
   -- each reply from an edge on leads to a position that is judged lost
@@ -33,8 +31,7 @@ module _ (lost : Position → Bool) (t : Task) (p : Position) (a : Attack) where
     unfolding winsFrom all
     wins-next e {j} {x} h = rw (h .first, h .target, e, after-is t p a j)
 
--- those from the range's first edge on are all
-pub wins-all : {b : List ℕ} → Index b → (lost : Position → Bool) (p : Position) (a : Attack)
-    → winsBy (taskIn b) lost p a ≡ winsFrom lost (taskIn b) p a (challengeOf (taskIn b) p a .edges .first)
-unfolding winsFrom winsBy
-wins-all h lost p a = rw (all-replies h p a)
+  -- those from edge 0 on are all
+  pub wins-all : winsBy t lost p a ≡ winsFrom 0
+  unfolding winsFrom winsBy
+  wins-all = rw (all-replies t p a)

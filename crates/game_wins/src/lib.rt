@@ -107,8 +107,7 @@ pub fn settled(
     ensures { λ r. ⌜ r ≡ winsBy (taskIn (now (index .entry))) (judgedAmong (now (losing .entry)) (now (list .entry)) judge) p
         (attackOf challenge) ⌝ }
 {
-    let edges = challenge.edges;
-    let mut from = edges.first;
+    let mut from = 0;
     loop {
         let reply = next_reply(index, challenge, from);
         let Reply::By(edge, target) = reply else {

@@ -33,14 +33,14 @@ asked c = rw (c .of .ensures)
 
 -- the reply that was found is the next one
 next : (c : tie.After-known-told Inv-loop μ-loop) → let at-loop = c .before .before .before .before in
-    let made = at-loop .before .before in
+    let made = at-loop .before in
     let a = made .before .before .args in
     NextReply (taskIn (now (a .index))) (a .p) (attackOf (made .of .result)) (at-loop .loop .from) (c .before .reply .given .0 .0)
     (c .before .reply .given .0 .1 .0)
 next c =
     let found = c .before in
     let searched = found .before .before in
-    let made = searched .before .before .before in
+    let made = searched .before .before in
     reply-found _ _ _ _ (searched .next-reply .ensures _ _ (asked made)) (found .reply .given .1)
 
 loop-holds : tie.Need-loop-holds Inv-loop μ-loop
@@ -54,22 +54,22 @@ unfolding markedAll
 returns c =
     let searched = c .before .before in
     let at-loop = searched .before in
-    let made = at-loop .before .before in
+    let made = at-loop .before in
     let start = made .before .before in
     let a = start .args in
     let none-left = reply-missing _ _ _ _ (searched .next-reply .ensures _ _ (asked made)) (c .enum-told .given .1) in
-    rw none-left at (at-loop .loop .inv .1) ∙ rw (made .of .ensures, leads-all (start .pre .1) (a .p) (a .a))
+    rw none-left at (at-loop .loop .inv .1) ∙ rw (made .of .ensures, leads-all (taskIn (now (a .index))) (a .p) (a .a))
 
 mark-requires : tie.Need-mark-requires Inv-loop μ-loop
 mark-requires c κs =
     let found = c .before .before .before in
     let at-loop = found .before .before .before in
-    searchable-kept (at-loop .before .before .before .before .pre .0) (at-loop .loop .inv .0)
+    searchable-kept (at-loop .before .before .before .pre .0) (at-loop .loop .inv .0)
 
 add-from : tie.Need-add-from Inv-loop μ-loop
 add-from c =
     let told = c .before .before .before .before .before in
-    let made = told .before .before .before .before .before .before in
+    let made = told .before .before .before .before .before in
     let start = made .before .before in
     let exists = next told .exists in
     let few = few-edges (start .pre .1) (other (made .of .result .side)) in
@@ -84,7 +84,7 @@ loop-again c =
     let marked = c .before .before in
     let told = marked .before .before .before in
     let at-loop = told .before .before .before .before in
-    let made = at-loop .before .before in
+    let made = at-loop .before in
     let n = made .before .before .args .n in (
       kept-trans (at-loop .loop .inv .0) (rw (marked .mark .ensures) (kept-marked n _ (at-loop .loop .table))),
       rw (marked .mark .ensures, marked .before .after .ensures)

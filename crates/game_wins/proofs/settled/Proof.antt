@@ -30,40 +30,38 @@ abbrev μ-loop : tie.MeasureT-loop
 
 -- the reply that was found is the next one
 next : (c : tie.After-known-told Inv-loop μ-loop) → let at-loop = c .before .before .before .before in
-    let a = at-loop .before .before .before .args in
+    let a = at-loop .before .before .args in
     NextReply (taskIn (now (a .index))) (a .p) (attackOf (a .challenge)) (at-loop .loop .from) (c .before .reply .given .0 .0)
     (c .before .reply .given .0 .1 .0)
 next c =
     let found = c .before in
     let searched = found .before .before in
-    let start = searched .before .before .before .before in
+    let start = searched .before .before .before in
     reply-found _ _ _ _ (searched .next-reply .ensures (start .args .p) (attackOf (start .args .challenge)) (start .pre .1 .1))
     (found .reply .given .1)
 
 -- what is left to settle is whether it leads to a lost position, and what is left after it
 left : (c : tie.After-leads-to-lost Inv-loop μ-loop) → let found = c .before .before in
     let at-loop = found .before .before .before in
-    let a = at-loop .before .before .before .args in
+    let a = at-loop .before .before .args in
     let lost = judgedAmong (now (a .losing)) (now (a .list)) (a .judge) in
     winsBy (taskIn (now (a .index))) lost (a .p) (attackOf (a .challenge))
     ≡ (c .leads-to-lost .result
     && winsFrom lost (taskIn (now (a .index))) (a .p) (attackOf (a .challenge)) (found .reply .given .0 .0 + 1))
 left c =
     let at-loop = c .before .before .before .before .before in
-    let start = at-loop .before .before .before in
+    let start = at-loop .before .before in
     at-loop .loop .inv
     ∙ wins-next _ _ _ _ _ (start .pre .1 .1) (next (c .before))
     ∙ rw (c .leads-to-lost .ensures)
 
 loop-holds : tie.Need-loop-holds Inv-loop μ-loop
-loop-holds c =
-    let start = c .before .before in
-    rw (start .pre .1 .1) (wins-all (start .pre .1 .0) _ (start .args .p) (attackOf (start .args .challenge)))
+loop-holds c = wins-all _ _ _ _
 
 returns : tie.Need-returns Inv-loop μ-loop
 returns c =
     let searched = c .before .before in
-    let start = searched .before .before .before .before in
+    let start = searched .before .before .before in
     let none-left =
     reply-missing _ _ _ _ (searched .next-reply .ensures (start .args .p) (attackOf (start .args .challenge)) (start .pre .1 .1))
     (c .enum-told .given .1) in
@@ -77,7 +75,7 @@ returns-2 c =
 add-from : tie.Need-add-from Inv-loop μ-loop
 add-from c =
     let found = c .before .before in
-    let start = found .before .before .before .before .before .before .before in
+    let start = found .before .before .before .before .before .before in
     let exists = next found .exists in
     let few = few-edges (start .pre .1 .0) (other (start .args .challenge .side)) in
     search (needs, exists, few)

@@ -135,7 +135,7 @@ impl Play<'_> {
 
     /// The attack of a record, with answers that all lead to records of fewer rounds.
     fn attack(&self, loss: &Loss, setting: &Setting) -> Result<Attack, Refusal> {
-        let [side, place, case] = loss.attack;
+        let [side, edge, case] = loss.attack;
         let side = match side {
             1 => Side::Left,
             2 => Side::Right,
@@ -144,7 +144,7 @@ impl Play<'_> {
         if !self.game.attackers().contains(&side) {
             return refused(loss.at, "expected a side that attacks in this game");
         }
-        let edge = usize::from(place);
+        let edge = usize::from(edge);
         let mut edges = setting.edges(self.task, side);
         let Some((_, taken)) = edges.find(|numbered| numbered.0 == edge) else {
             return refused(loss.at, "expected an edge that starts in this position");

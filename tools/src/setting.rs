@@ -62,7 +62,8 @@ pub enum Hindrance {
     Seen,
 }
 
-/// An edge of the replying reader that has the attack's tag: where it leads, or why it does not take the number.
+/// An edge of the replying reader that has the attack's tag, by its number in the model: where it leads, or why it does not take the
+/// number.
 pub struct Answer {
     pub edge: usize,
     pub leads: Result<Setting, Hindrance>,
@@ -178,8 +179,8 @@ impl Setting {
     pub fn answers(&self, task: &Task, side: Side, edge: &Edge, number: u32) -> Vec<Answer> {
         let same_tag = |answer: &(usize, &Edge)| answer.1.tag == edge.tag;
         let edges = self.edges(task, side.other()).filter(same_tag);
-        let answer = |(place, reply): (usize, &Edge)| Answer {
-            edge: place,
+        let answer = |(k, reply): (usize, &Edge)| Answer {
+            edge: k,
             leads: match self.hindrance(side.other(), reply, number) {
                 Some(hindrance) => Err(hindrance),
                 None => Ok(self.after(task, side, edge, reply, number)),

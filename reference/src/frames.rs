@@ -3,8 +3,8 @@
 
 use crate::check::{check_by, CheckAnswer};
 use crate::compare::{compare_by, Answer};
-use crate::game::{is_reply, named_attack, Position, POSITION_LENGTH};
-use crate::model::{Model, Refusal, Task};
+use crate::game::{first_reply, is_reply, named_attack, Position, Reply, POSITION_LENGTH};
+use crate::model::{Model, Refusal, Side, Task};
 use crate::rules::Rules;
 use crate::task;
 use std::io::{self, Read, Write};
@@ -15,6 +15,7 @@ pub const CHECK: u8 = 3;
 pub const COMPARE_ONE_WAY: u8 = 4;
 pub const CHECK_ONE_WAY: u8 = 5;
 pub const REPLY: u8 = 6;
+pub const FIRST_REPLY: u8 = 7;
 
 /// What a request and its answer are about.
 #[derive(Clone, Copy, PartialEq, Eq, Debug)]
@@ -23,16 +24,18 @@ enum Subject {
     Compare(Rules),
     Check(Rules),
     Reply,
+    FirstReply,
 }
 
 /// The byte that a payload begins with, and what it stands for.
-const SUBJECTS: [(u8, Subject); 6] = [
+const SUBJECTS: [(u8, Subject); 7] = [
     (READ, Subject::Read),
     (COMPARE, Subject::Compare(Rules::TWO_WAY)),
     (CHECK, Subject::Check(Rules::TWO_WAY)),
     (COMPARE_ONE_WAY, Subject::Compare(Rules::ONE_WAY)),
     (CHECK_ONE_WAY, Subject::Check(Rules::ONE_WAY)),
     (REPLY, Subject::Reply),
+    (FIRST_REPLY, Subject::FirstReply),
 ];
 
 impl Subject {
@@ -46,13 +49,15 @@ impl Subject {
     }
 }
 
-/// Whether the other side's edge with this number is a reply to this attack
-/// in this position. Any bytes will do.
+/// A question about the replies to this attack in this position: whether the
+/// other side's edge with this number is one, or which one is the first from
+/// this number on. Any bytes will do.
 #[derive(Clone, Copy, PartialEq, Eq, Debug)]
 pub struct ReplyQuestion {
     pub position: Position,
     /// Side, edge and case.
     pub attack: [u8; 3],
+    /// The number of an edge of the other side.
     pub edge: u8,
 }
 
@@ -86,6 +91,16 @@ impl ReplyQuestion {
         let attack = named_attack(task, self.attack);
         attack.is_some_and(|attack| is_reply(task, &self.position, attack, self.edge))
     }
+
+    /// The reply with the least number from this one on. An attack that
+    /// cannot be named has none.
+    pub fn first(&self, task: &Task) -> FoundReply {
+        let found = named_attack(task, self.attack).and_then(|attack| {
+            let reply = first_reply(task, &self.position, attack, self.edge)?;
+            Some(FoundReply::of(task, attack.side.other(), &reply))
+        });
+        found.unwrap_or_default()
+    }
 }
 
 #[derive(Clone, PartialEq, Eq, Debug)]
@@ -94,6 +109,7 @@ pub enum Request {
     Compare { rules: Rules, task: Vec<u8>, table: Vec<u8>, buffer: Vec<u8> },
     Check { rules: Rules, task: Vec<u8>, certificate: Vec<u8> },
     Reply { task: Vec<u8>, question: ReplyQuestion },
+    FirstReply { task: Vec<u8>, question: ReplyQuestion },
 }
 
 #[derive(Clone, PartialEq, Eq, Debug)]
@@ -118,6 +134,33 @@ pub enum Response {
         refusal: u32,
         answer: u32,
     },
+    FirstReply {
+        refusal: u32,
+        found: FoundReply,
+    },
+}
+
+/// A first reply as numbers and bytes. Where none is found, and after a
+/// refusal, everything is zero or empty.
+#[derive(Clone, PartialEq, Eq, Debug, Default)]
+pub struct FoundReply {
+    /// 1 if there is one.
+    pub found: u32,
+    /// The number of its edge.
+    pub edge: u32,
+    /// The to state of its edge.
+    pub to: u32,
+    /// The position that the round leads to.
+    pub leads_to: Vec<u8>,
+}
+
+impl FoundReply {
+    /// A reply by an edge of this side.
+    fn of(task: &Task, side: Side, reply: &Reply) -> FoundReply {
+        let to = task.model(side).edges[reply.edge as usize].to;
+        let leads_to = reply.leads_to.bytes().to_vec();
+        FoundReply { found: 1, edge: reply.edge as u32, to: to as u32, leads_to }
+    }
 }
 
 impl Request {
@@ -127,6 +170,7 @@ impl Request {
             Request::Compare { task, .. } => task,
             Request::Check { task, .. } => task,
             Request::Reply { task, .. } => task,
+            Request::FirstReply { task, .. } => task,
         }
     }
 
@@ -136,6 +180,7 @@ impl Request {
             Request::Compare { rules, .. } => Subject::Compare(*rules),
             Request::Check { rules, .. } => Subject::Check(*rules),
             Request::Reply { .. } => Subject::Reply,
+            Request::FirstReply { .. } => Subject::FirstReply,
         }
     }
 
@@ -144,7 +189,9 @@ impl Request {
             Request::Read { task } => &[task],
             Request::Compare { task, table, buffer, .. } => &[task, table, buffer],
             Request::Check { task, certificate, .. } => &[task, certificate],
-            Request::Reply { task, question } => &[task, &question.bytes()],
+            Request::Reply { task, question } | Request::FirstReply { task, question } => {
+                &[task, &question.bytes()]
+            }
         };
         payload(self.subject().byte(), &[], strings)
     }
@@ -164,6 +211,10 @@ impl Request {
                 let question = ReplyQuestion::from_bytes(&fields.string()?)?;
                 Request::Reply { task, question }
             }
+            Subject::FirstReply => {
+                let question = ReplyQuestion::from_bytes(&fields.string()?)?;
+                Request::FirstReply { task, question }
+            }
         };
         fields.rest.is_empty().then_some(request)
     }
@@ -176,6 +227,7 @@ impl Response {
             Response::Compare { rules, .. } => Subject::Compare(*rules),
             Response::Check { rules, .. } => Subject::Check(*rules),
             Response::Reply { .. } => Subject::Reply,
+            Response::FirstReply { .. } => Subject::FirstReply,
         }
     }
 
@@ -196,6 +248,9 @@ impl Response {
             }
             Response::Reply { refusal, answer } => {
                 payload(self.first_byte(), &[*refusal, *answer], &[])
+            }
+            Response::FirstReply { refusal, found: f } => {
+                payload(self.first_byte(), &[*refusal, f.found, f.edge, f.to], &[&f.leads_to])
             }
         }
     }
@@ -222,6 +277,12 @@ impl Response {
             }
             Subject::Reply => {
                 Response::Reply { refusal: fields.number()?, answer: fields.number()? }
+            }
+            Subject::FirstReply => {
+                let refusal = fields.number()?;
+                let [found, edge, to] = [fields.number()?, fields.number()?, fields.number()?];
+                let found = FoundReply { found, edge, to, leads_to: fields.string()? };
+                Response::FirstReply { refusal, found }
             }
         };
         fields.rest.is_empty().then_some(response)
@@ -332,6 +393,10 @@ pub fn reference_response(request: &Request) -> Response {
         Request::Reply { task, question } => match task::read(task) {
             Ok(task) => Response::Reply { refusal: 0, answer: question.answer(&task) as u32 },
             Err(Refusal(refusal)) => Response::Reply { refusal, answer: 0 },
+        },
+        Request::FirstReply { task, question } => match task::read(task) {
+            Ok(task) => Response::FirstReply { refusal: 0, found: question.first(&task) },
+            Err(Refusal(refusal)) => Response::FirstReply { refusal, found: FoundReply::default() },
         },
     }
 }

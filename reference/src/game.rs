@@ -208,7 +208,9 @@ pub fn is_reply(task: &Task, position: &Position, attack: Attack, number: u8) ->
     }
 }
 
-/// The position after an attack and the reply with this edge number.
+/// The position after an attack and the reply with this edge number. Any bytes
+/// of a position will do; what comes of them means something only where the
+/// position is legal and the attack exists in it.
 fn after(task: &Task, position: &Position, attack: Attack, number: u8) -> Position {
     let (side, other) = (attack.side, attack.side.other());
     let (edge, reply) = (attack.edge_of(task), &task.model(other).edges[number as usize]);
@@ -227,7 +229,7 @@ fn after(task: &Task, position: &Position, attack: Attack, number: u8) -> Positi
     next.left = left.to;
     next.right = right.to;
     if attack.case == CASE_NEW {
-        next.history = (position.history + 1).min(MAX_HISTORY);
+        next.history = position.history.saturating_add(1).min(MAX_HISTORY);
     }
     let (left_set, right_set) = (task.left.set(left.to), task.right.set(right.to));
     for (index, partner) in next.partners.iter_mut().enumerate() {
@@ -245,10 +247,17 @@ pub struct Reply {
     pub leads_to: Position,
 }
 
-/// All replies to an attack that exists, by edge number. A position is made
-/// only for an edge that is a reply.
+/// The reply with the least edge number from `from` on; None if no edge from
+/// there on is a reply. A position is made only for an edge that is one.
+pub fn first_reply(task: &Task, position: &Position, attack: Attack, from: u8) -> Option<Reply> {
+    let edges = task.model(attack.side.other()).edges.len() as u8;
+    let edge = (from..edges).find(|&number| is_reply(task, position, attack, number))?;
+    Some(Reply { edge, leads_to: after(task, position, attack, edge) })
+}
+
+/// All replies to an attack, by edge number: the search goes on behind each
+/// one that it found.
 pub fn replies(task: &Task, position: &Position, attack: Attack) -> Vec<Reply> {
-    let numbers = 0..task.model(attack.side.other()).edges.len() as u8;
-    let found = numbers.filter(|&number| is_reply(task, position, attack, number));
-    found.map(|edge| Reply { edge, leads_to: after(task, position, attack, edge) }).collect()
+    let from = |number: u8| first_reply(task, position, attack, number);
+    std::iter::successors(from(0), |found| from(found.edge.checked_add(1)?)).collect()
 }

@@ -4,6 +4,7 @@ pub mod blanks;
 pub mod chains;
 pub mod covers;
 pub mod damage;
+pub mod doubles;
 pub mod families;
 pub mod guesses;
 pub mod histories;
@@ -11,6 +12,7 @@ pub mod models;
 pub mod near;
 pub mod overwrites;
 pub mod proposals;
+pub mod questions;
 pub mod quota;
 pub mod sweeps;
 
@@ -112,9 +114,22 @@ fn make(random: &mut Random, kind: ItemKind) -> Item {
             let base = valid_task(random);
             damage::damaged(random, &base)
         }
-        _ => task::write(&task_of_kind(random, kind)),
+        _ => {
+            let task = task_of_kind(random, kind);
+            task::write(&with_doubles(random, kind, task))
+        }
     };
     Item { kind, bytes }
+}
+
+/// Half of the chains have doubled edges. Nothing is drawn behind this step,
+/// so all other items are as they would be without it; damaged ones too,
+/// which have no doubles.
+fn with_doubles(random: &mut Random, kind: ItemKind, task: Task) -> Task {
+    match kind == ItemKind::Chain && random.chance(50) {
+        true => doubles::doubled(task),
+        false => task,
+    }
 }
 
 pub fn item(seed: u64, index: u64) -> Item {

@@ -54,7 +54,8 @@ impl Reader {
         }
     }
 
-    fn moved(&self, model: &Model, edge: &Edge, number: Number) -> Reader {
+    /// The reader after an edge of its model that took the number.
+    pub fn moved(&self, model: &Model, edge: &Edge, number: Number) -> Reader {
         let mut next = *self;
         if edge.kind.is_fresh() {
             next.registers[edge.register as usize - 1] = Some(number);

@@ -446,7 +446,9 @@ fn alter(random: &mut Random, reply: &mut Reply, field: &str) -> bool {
             _ => add_one(&mut answer.refusal),
         },
         // The runner asks for none, but a partner can answer so.
-        Reply::Frame(Response::Reply { refusal, .. }) => add_one(refusal),
+        Reply::Frame(Response::Reply { refusal, .. } | Response::FirstReply { refusal, .. }) => {
+            add_one(refusal)
+        }
     }
 }
 
@@ -486,6 +488,9 @@ fn describe(reply: &Reply, other: &Reply) -> String {
         (Reply::Frame(Response::Check { answer, .. }), _) => format!("{answer:?}"),
         (Reply::Frame(Response::Reply { refusal, answer }), _) => {
             format!("refusal {refusal}, answer {answer}")
+        }
+        (Reply::Frame(Response::FirstReply { refusal, found }), _) => {
+            format!("refusal {refusal}, {found:?}")
         }
         (Reply::Frame(Response::Compare { answer, table, buffer, .. }), other) => {
             let (other_table, other_buffer) = match other {

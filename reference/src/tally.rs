@@ -4,7 +4,7 @@ use crate::certificate::{
     greatest_length, listed_attack, listed_position, record_length, LOST_LENGTH,
 };
 use crate::compare::{whole_entries, Solution};
-use crate::game::{attacks, existing_attack, replies, Attack, Position, CASE_NEW};
+use crate::game::{attacks, existing_attack, replies, Attack, Position, Reply, CASE_NEW};
 use crate::generate::histories::SizeClass;
 use crate::model::*;
 use std::collections::{BTreeMap, BTreeSet};
@@ -85,7 +85,8 @@ impl Tally {
         self.add(format!("rounds:{}", class(rounds, &ROUND_CLASSES)));
     }
 
-    /// Attack cases and meetings of edge kinds, each counted once a task.
+    /// Attack cases, replies and meetings of edge kinds, each counted once a
+    /// task.
     pub fn add_features(&mut self, task: &Task, solution: &Solution) {
         let mut keys = BTreeSet::new();
         for (position, attack) in listed_attacks(task, solution) {
@@ -93,16 +94,12 @@ impl Tally {
             if attack.case == CASE_NEW && edge_kind(task, attack.side, attack.edge) == "local" {
                 keys.insert("case:8-of-a-local-edge".to_string());
             }
-            for pair in reply_kinds(task, &position, attack) {
-                keys.insert(format!("certificate-reply:{pair}"));
-            }
+            keys.extend(reply_keys("certificate-", task, &position, attack));
         }
         // A sample is enough where there are very many positions.
         for (position, _) in solution.entries.iter().take(300) {
             for attack in attacks(solution.rules, task, position) {
-                for pair in reply_kinds(task, position, attack) {
-                    keys.insert(format!("reply:{pair}"));
-                }
+                keys.extend(reply_keys("", task, position, attack));
             }
             keys.extend(meetings(task, position));
         }
@@ -157,12 +154,32 @@ pub fn listed_attacks(task: &Task, solution: &Solution) -> Vec<(Position, Attack
     solution.certificate.chunks(LOST_LENGTH).filter_map(attack_of).collect()
 }
 
-/// "attack kind-reply kind" for each reply.
-fn reply_kinds(task: &Task, position: &Position, attack: Attack) -> Vec<String> {
-    let attack_kind = edge_kind(task, attack.side, attack.edge);
+/// "reply:attack kind-reply kind" for each reply, "replies:sort" for all of
+/// them, with the same word before each.
+fn reply_keys(word: &str, task: &Task, position: &Position, attack: Attack) -> Vec<String> {
     let list = replies(task, position, attack);
-    let other = attack.side.other();
-    list.iter().map(|r| format!("{attack_kind}-{}", edge_kind(task, other, r.edge))).collect()
+    let (kind, other) = (edge_kind(task, attack.side, attack.edge), attack.side.other());
+    let kinds = list.iter().map(|r| format!("reply:{kind}-{}", edge_kind(task, other, r.edge)));
+    let sorts = reply_sorts(&list).into_iter().map(|sort| format!("replies:{sort}"));
+    kinds.chain(sorts).map(|key| format!("{word}{key}")).collect()
+}
+
+pub const FIRST_ABOVE_0: &str = "first-above-0";
+pub const TO_ONE_POSITION: &str = "to-one-position";
+pub const SEVERAL: &str = "several";
+
+/// What is to be seen in the replies to one attack, all of them, rising: the
+/// lowest is not edge 0 of its model; two lead to one position; there is more
+/// than one.
+pub fn reply_sorts(list: &[Reply]) -> Vec<&'static str> {
+    let above_0 = list.first().is_some_and(|first| first.edge > 0);
+    let targets: BTreeSet<Position> = list.iter().map(|r| r.leads_to).collect();
+    let sorts = [
+        (FIRST_ABOVE_0, above_0),
+        (TO_ONE_POSITION, targets.len() < list.len()),
+        (SEVERAL, list.len() > 1),
+    ];
+    sorts.into_iter().filter(|(_, is_seen)| *is_seen).map(|(sort, _)| sort).collect()
 }
 
 fn edge_kind(task: &Task, side: Side, edge: u8) -> &'static str {

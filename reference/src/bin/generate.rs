@@ -1,7 +1,9 @@
 //! The generator as a program.
 
+use reference::frames::write_frame;
 use reference::generate::families::{family, FAMILIES};
 use reference::generate::histories::stating;
+use reference::generate::questions::{about_items, about_task, Questions};
 use reference::generate::quota::{measure, measure_proposals, quota_table};
 use reference::generate::{item, item_of_kind, ItemKind};
 use reference::model::Task;
@@ -20,6 +22,9 @@ usage: reference-generate item SEED INDEX [KIND]    one item's bytes to standard
        reference-generate proposals SEED COUNT      what comes of proposed certificates
        reference-generate quota-one-way SEED COUNT      the same two in the one-way game
        reference-generate proposals-one-way SEED COUNT
+       reference-generate questions SEED COUNT [TASKFILE]
+                                                    requests for first replies, about items
+                                                    or the task in TASKFILE, as frames
 KIND is small, near, chain, cover, guess, overwrite, reach, blank or damaged.";
 
 fn main() {
@@ -58,6 +63,13 @@ fn run(words: &[&str]) -> Result<(), String> {
             }
             Ok(())
         }
+        ["questions", seed, count] => {
+            put_questions(&about_items(number(seed)?, number(count)? as usize))
+        }
+        ["questions", seed, count, file] => {
+            let task = std::fs::read(file).map_err(|e| format!("cannot read {file}: {e}"))?;
+            put_questions(&about_task(number(seed)?, number(count)? as usize, task)?)
+        }
         [word, seed, count] => measured(word, seed, count),
         _ => Err(USAGE.to_string()),
     }
@@ -91,6 +103,16 @@ fn items(seed: u64, count: u64, directory: &str) -> Result<(), String> {
         std::fs::write(path, made.bytes).map_err(|e| e.to_string())?;
     }
     Ok(())
+}
+
+/// The frames to standard output, the counts to standard error.
+fn put_questions(questions: &Questions) -> Result<(), String> {
+    let mut frames = Vec::new();
+    for request in &questions.requests {
+        write_frame(&mut frames, &request.payload()).map_err(|e| e.to_string())?;
+    }
+    eprint!("{}", questions.tally.table());
+    put(&frames)
 }
 
 fn quota(rules: Rules, seed: u64, count: u64) -> Result<(), String> {

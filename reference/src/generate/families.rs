@@ -15,6 +15,8 @@ pub const FAMILIES: &[(&str, &str, &str)] = &[
     ("rings-fresh", "A B R", "rings with R registers held and globally fresh edges; large reach"),
     ("listed", "S R W", "S states in a row, R registers held, W replies; all is lost and listed"),
     ("exact", "N", "N positions exactly, where 15 looping states can add up to it; EQUAL"),
+    ("forks", "S R", "S states in a row, several replies, two of them to one position; EQUAL"),
+    ("forks-late", "S R", "forks with an end mark on the left reader's last state; S - 1 rounds"),
 ];
 
 pub fn family(name: &str, sizes: &[usize]) -> Result<Task, String> {
@@ -38,6 +40,8 @@ pub fn family(name: &str, sizes: &[usize]) -> Result<Task, String> {
             Ok(listed(sizes[0], sizes[1], sizes[2]))
         }
         "exact" if fits(&[(1, 20_000)]) => exact(sizes[0]).ok_or_else(none),
+        "forks" if fits(&[(1, 15), (0, 4)]) => Ok(forks(sizes[0], sizes[1])),
+        "forks-late" if fits(&[(1, 15), (0, 4)]) => Ok(forks_late(sizes[0], sizes[1])),
         _ => Err(none()),
     }
 }
@@ -218,4 +222,43 @@ fn exact(positions: usize) -> Option<Task> {
     tidy(&mut model);
     let fits = model.states.len() <= MAX_STATES && model.edges.len() <= MAX_EDGES;
     fits.then(|| Task::new(model.clone(), model, Vec::new()))
+}
+
+/// Two chains of states in which every attack has several replies, and two
+/// of them lead to one position. No reply is edge 0, nor edge 1.
+fn forks(states: usize, registers: usize) -> Task {
+    let (left, right) = (fork_model(states, registers, 2), fork_model(states, registers, 3));
+    Task::new(left, right, Vec::new())
+}
+
+/// All replies to an attack of the left reader lead one step on.
+fn forks_late(states: usize, registers: usize) -> Task {
+    let mut task = forks(states, registers);
+    task.left.states[states].end_mark = 1;
+    task
+}
+
+/// A chain from state 1 on, by globally fresh edges: each state can write
+/// registers that are held, and has two edges that drop the number, which
+/// lead to one position. State 0 is never reached; its edges, `aside` of
+/// them, are the first ones of the model. Where 64 edges are not enough for
+/// all registers, those that a state can write turn with the state.
+fn fork_model(states: usize, registers: usize, aside: u8) -> Model {
+    const DROPPING: [u8; 2] = [5, 6];
+    let edge = |from: usize, tag: u8, register: u8, to: usize| {
+        let (from, to) = (from as u8, to as u8);
+        Edge { from, tag, kind: Kind::GloballyFresh, register, to }
+    };
+    let steps = states - 1;
+    let room = (MAX_EDGES - aside as usize) / steps.max(1);
+    let writing = registers.min(room - DROPPING.len());
+    let mut edges: Vec<Edge> = (0..aside).map(|tag| edge(0, tag, DROPPING[0], 0)).collect();
+    for from in 1..=steps {
+        let written = (0..writing).map(|place| ((from + place) % registers + 1) as u8);
+        edges.extend(written.chain(DROPPING).map(|register| edge(from, 0, register, from + 1)));
+    }
+    let states = uniform_states(states + 1, registers);
+    let mut model = Model { registers: 6, start: 1, states, edges };
+    tidy(&mut model);
+    model
 }

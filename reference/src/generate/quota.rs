@@ -9,7 +9,7 @@ use crate::check::check_by;
 use crate::model::{Task, MAX_HISTORY};
 use crate::random::Random;
 use crate::rules::Rules;
-use crate::tally::Tally;
+use crate::tally::{Tally, FIRST_ABOVE_0, TO_ONE_POSITION};
 use crate::task;
 
 /// What came of `count` items of a seed, in one game.
@@ -98,6 +98,11 @@ pub fn quotas(rules: Rules) -> Vec<(String, u64)> {
         // listed with a globally fresh reply, in either game.
         let least = if pair == "local-global" { 100 } else { in_certificates };
         list.push((format!("certificate-reply:{pair}"), least));
+    }
+    for word in ["replies", "certificate-replies"] {
+        for sort in [FIRST_ABOVE_0, TO_ONE_POSITION] {
+            list.push((format!("{word}:{sort}"), 200));
+        }
     }
     list.extend(history_quotas(rules));
     list

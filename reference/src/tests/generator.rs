@@ -1,8 +1,10 @@
 //! The generator's quotas, and that they can be missed.
 
+use crate::whole::tasks;
 use crate::Test;
 use reference::certificate::{listed_position, listed_rounds, LOST_LENGTH};
-use reference::compare::solve;
+use reference::compare::{solve, Solution};
+use reference::generate::doubles::doubled;
 use reference::generate::families::{family, FAMILIES};
 use reference::generate::proposals::{proposal, ProposalKind};
 use reference::generate::quota::*;
@@ -12,7 +14,7 @@ use reference::model::{Task, Verdict};
 use reference::random::Random;
 use reference::rules::Rules;
 use reference::tally::Tally;
-use reference::task::{body_length, read, END, HISTORY, PAIR};
+use reference::task::{body_length, read, write, END, HISTORY, PAIR};
 use std::collections::BTreeSet;
 
 pub const TESTS: &[Test] = &[
@@ -30,6 +32,7 @@ pub const TESTS: &[Test] = &[
         marked_later(Rules::ONE_WAY)
     }),
     ("generator: sweeps have every proposal once", sweeps),
+    ("generator: doubled edges change nothing but replies", doubled_edges),
     ("generator: history records are damaged in every way", damaged_histories),
     ("generator: families are valid", valid_families),
     ("generator: families of a stated size", stated_sizes),
@@ -151,6 +154,36 @@ fn sweeps() {
     assert_eq!(Sweep::Bytes.count(&right), 20 * 255);
 }
 
+/// 1 if two replies to some attack lead to one position.
+fn replies_to_one_position(task: &Task, solution: &Solution) -> u64 {
+    let mut tally = Tally::default();
+    tally.add_features(task, solution);
+    tally.get("replies:to-one-position")
+}
+
+/// Verdict, rounds, positions and the certificate's length stay.
+fn doubled_edges() {
+    let mut seen = Tally::default();
+    for task in tasks(160, 1200) {
+        let with_doubles = doubled(task.clone());
+        assert_eq!(read(&write(&with_doubles)).as_ref(), Ok(&with_doubles));
+        for rules in Rules::ALL {
+            let (plain, double) = (solve(rules, &task), solve(rules, &with_doubles));
+            assert!(plain.entries == double.entries && plain.verdict == double.verdict);
+            assert_eq!(plain.certificate.len(), double.certificate.len());
+            let counts = [(&task, &plain), (&with_doubles, &double)]
+                .map(|(task, solution)| replies_to_one_position(task, solution));
+            assert!(counts[0] <= counts[1]);
+            let edges = |t: &Task| t.left.edges.len() + t.right.edges.len();
+            let grown = if edges(&with_doubles) > edges(&task) { "more" } else { "as many" };
+            seen.add(format!("{grown} edges, to one position {counts:?}"));
+        }
+    }
+    print!("{}", seen.table());
+    assert!(seen.get("more edges, to one position [0, 1]") >= 300);
+    assert_eq!(seen.get("as many edges, to one position [0, 1]"), 0);
+}
+
 fn stated_sizes() {
     let solved =
         |name, sizes: &[usize]| solve(Rules::TWO_WAY, &family(name, sizes).expect("a family"));
@@ -229,7 +262,7 @@ fn valid_families() {
     for (name, sizes, _) in FAMILIES {
         let sizes = vec![3; sizes.split(' ').count()];
         let task = family(name, &sizes).expect("a family");
-        assert!(read(&reference::task::write(&task)).is_ok(), "{name}");
+        assert!(read(&write(&task)).is_ok(), "{name}");
     }
     assert!(family("dearest", &[7]).is_err());
     assert!(family("ring", &[17, 2]).is_err());

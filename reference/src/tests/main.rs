@@ -10,6 +10,7 @@ mod one_way;
 mod reader;
 mod replies;
 mod runner;
+mod searches;
 mod sizes;
 mod whole;
 
@@ -31,6 +32,7 @@ fn main() {
         history::TESTS,
         sizes::TESTS,
         replies::TESTS,
+        searches::TESTS,
         generator::TESTS,
         runner::TESTS,
     ];

@@ -242,7 +242,7 @@ fn illegal_positions() {
     }
 }
 
-fn reached(task: &Task) -> Vec<Position> {
+pub fn reached(task: &Task) -> Vec<Position> {
     let entries = settle_from(TWO_WAY, task, &[Position::start(task)]);
     entries.into_iter().map(|(position, _)| position).collect()
 }
@@ -269,18 +269,14 @@ fn assert_as_listed(seen: &mut Tally, bytes: &[u8]) {
 
 /// Cases 7 and 8 are files that are turned back, 9 and 10 have the task of
 /// case 1.
+pub fn marked_tasks() -> [Vec<u8>; 8] {
+    let stated = stating(task_2(), 0);
+    [task_1(), task_2(), stated, task_3(), task_4(), task_5(), task_6(), task_11()]
+}
+
 fn marked_cases() {
     let mut seen = Tally::default();
-    for task in [
-        task_1(),
-        task_2(),
-        stating(task_2(), 0),
-        task_3(),
-        task_4(),
-        task_5(),
-        task_6(),
-        task_11(),
-    ] {
+    for task in marked_tasks() {
         assert_as_listed(&mut seen, &task);
     }
     print!("{}", seen.table());
@@ -319,15 +315,15 @@ fn random_tasks() {
 
 /// Readers with actual numbers in a legal position: the numbers held are the
 /// lowest ones, and all below the history's size were seen.
-struct Actual {
+pub struct Actual {
     left: Reader,
     right: Reader,
-    history: NumberSet,
+    pub history: NumberSet,
     size: Number,
 }
 
 impl Actual {
-    fn of(task: &Task, position: &Position) -> Actual {
+    pub fn of(task: &Task, position: &Position) -> Actual {
         let mut numbers = 0..;
         let mut left = Reader { state: position.left, registers: [None; MAX_REGISTERS] };
         let mut right = Reader { state: position.right, registers: [None; MAX_REGISTERS] };
@@ -344,7 +340,7 @@ impl Actual {
         Actual { left, right, history, size: position.history }
     }
 
-    fn reader(&self, side: Side) -> &Reader {
+    pub fn reader(&self, side: Side) -> &Reader {
         match side {
             Side::Left => &self.left,
             Side::Right => &self.right,
@@ -352,7 +348,7 @@ impl Actual {
     }
 
     /// The number that the attack is made with.
-    fn number(&self, attack: Attack, edge: &Edge) -> Number {
+    pub fn number(&self, attack: Attack, edge: &Edge) -> Number {
         let held = |side, register: u8| self.reader(side).registers[register as usize - 1];
         let number = match attack.case {
             0 => held(attack.side, edge.register),
@@ -548,7 +544,7 @@ const REQUEST: &str = "36 00 00 00  06 \
 const YES: &str = "09 00 00 00  06  00 00 00 00  01 00 00 00";
 const NO: &str = "09 00 00 00  06  00 00 00 00  00 00 00 00";
 
-fn frame_of(payload: &[u8]) -> Vec<u8> {
+pub fn frame_of(payload: &[u8]) -> Vec<u8> {
     let mut frame = Vec::new();
     write_frame(&mut frame, payload).expect("a frame");
     frame

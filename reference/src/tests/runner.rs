@@ -16,6 +16,7 @@ pub const TESTS: &[Test] = &[
     ("runner: an answer by the other game is reported", other_game),
     ("runner: a given task", given_task),
     ("runner: a given task at the limit of its buffer", at_the_limit),
+    ("runner: replies of a given task are counted", counted_replies),
     ("runner: an answer that no task can have is named", named_breaches),
     ("generator: a family with a stated history", stated_family),
     ("runner: every cut and every byte of a certificate", swept_certificate),
@@ -79,10 +80,17 @@ const SIZES: [&str; 15] = [
     "limit-10:one-less:20",
 ];
 
+const REPLIES: [&str; 4] = [
+    "replies:first-above-0:1000",
+    "replies:to-one-position:300",
+    "certificate-replies:first-above-0:300",
+    "certificate-replies:to-one-position:20",
+];
+
 fn same_answers() {
     assert_same("read", &["refusal:0:500"]);
     let verdicts = ["verdict:EQUAL:300", "answer:EQUAL:100", "answer:DIFFER:100"];
-    assert_same("compare", &[&SIZES[..], &verdicts].concat());
+    assert_same("compare", &[&SIZES[..], &REPLIES, &verdicts].concat());
     assert_same(
         "check",
         &["refusal:13:300", "refusal:14:300", "verdict:EQUAL:100", "verdict:DIFFER:100"],
@@ -91,7 +99,7 @@ fn same_answers() {
 
 fn same_answers_one_way() {
     let verdicts = ["answer:FOLLOWS:100", "answer:FALLS-SHORT:100", "beside:DIFFER-but-kept:300"];
-    assert_same("compare-one-way", &[&SIZES[..], &verdicts].concat());
+    assert_same("compare-one-way", &[&SIZES[..], &REPLIES, &verdicts].concat());
     assert_same(
         "check-one-way",
         &[
@@ -152,7 +160,7 @@ fn family(arguments: &[&str]) -> (Option<i32>, Vec<u8>) {
 }
 
 /// The file name of a family's task.
-fn family_file(arguments: &[&str]) -> String {
+pub fn family_file(arguments: &[&str]) -> String {
     let (status, task) = family(arguments);
     assert_eq!(status, Some(0), "{arguments:?}");
     let file = built(&format!("{}.task", arguments.join("-")));
@@ -216,6 +224,26 @@ fn at_the_limit() {
         let one = ["compare", "--task", &plain, "--first", first, "--count", "1", "--require", key];
         let (status, text) = runner(&one, &[&built("reference-adapter")]);
         assert_eq!(status, Some(0), "{text}");
+    }
+}
+
+/// Every attack of these families has replies to one position, and none of
+/// them is edge 0. Only the certificate of the late one lists attacks.
+fn counted_replies() {
+    let [late, equal] = ["forks-late", "forks"].map(|name| family_file(&[name, "5", "2"]));
+    for operation in ["compare", "compare-one-way"] {
+        for (name, word, wanted) in [
+            (&late, "replies", 0),
+            (&late, "certificate-replies", 0),
+            (&equal, "replies", 0),
+            (&equal, "certificate-replies", 1),
+        ] {
+            let mut arguments = vec![operation, "--task", name, "--count", "15"];
+            let keys = ["first-above-0", "to-one-position"].map(|sort| format!("{word}:{sort}:15"));
+            keys.iter().for_each(|key| arguments.extend(["--require", key]));
+            let (status, text) = runner(&arguments, &[&built("reference-adapter")]);
+            assert_eq!(status, Some(wanted), "{text}");
+        }
     }
 }
 

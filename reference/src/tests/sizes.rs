@@ -105,7 +105,7 @@ fn items(rules: Rules) {
 }
 
 /// Families with all that they can come to, some of them with a history.
-const SIZED: [(&str, &[usize]); 12] = [
+const SIZED: [(&str, &[usize]); 14] = [
     ("dearest", &[4]),
     ("dearest-equal", &[4]),
     ("ring", &[3, 4]),
@@ -118,6 +118,8 @@ const SIZED: [(&str, &[usize]); 12] = [
     ("listed", &[7, 6, 3]),
     ("listed", &[16, 2, 2]),
     ("exact", &[210]),
+    ("forks", &[4, 2]),
+    ("forks-late", &[5, 3]),
 ];
 
 /// Without a history record, and with the sizes that fit among 6, 8 and 12.

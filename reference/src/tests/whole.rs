@@ -399,6 +399,8 @@ fn baseline_agrees(rules: Rules) {
         ("ring-late", &[5, 3]),
         ("chain", &[16]),
         ("rings", &[16, 15]),
+        ("forks", &[5, 2]),
+        ("forks-late", &[15, 2]),
     ] {
         let task = family(name, sizes).expect("a family");
         assert!(baseline::solve(rules, &task) == solve(rules, &task), "{name}");

@@ -22,11 +22,11 @@ replier t a = modelOf t (other (a .side))
 unfoldable pub repliesFrom : Task → Position → Attack → ℕ → List ℕ
 repliesFrom t p a k = keep (isReply t p a) (count k (replier t a .«edge_count» - k))
 
--- an edge that was found, as the answer
+-- an edge that was found, as the answer: "its edge number besides where it leads"
 abbrev pub replyAnswer : Model → Option ℕ → Reply
 replyAnswer m none = Missing
 replyAnswer m (some k) = By k (targetOf m (edgeOf m k))
 
--- the first of them: of several replies the one with the lowest number
+-- the first of them. 02, ticket 5: "of several the lowest number first, and none is reported exactly if none is left"
 unfoldable pub replyFrom : Task → Position → Attack → ℕ → Reply
 replyFrom t p a k = replyAnswer (replier t a) (least (isReply t p a) k (replier t a .«edge_count» - k))

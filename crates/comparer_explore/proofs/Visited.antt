@@ -2,8 +2,8 @@
 use Prim.Native.Nat.{ℕ}
 use mathlib.Core.Logic.{_⊎_}
 use mathlib.Core.List.{List}
-use Rattle.comparer_explore_laws.specs.Growth.{Completes}
-use Rattle.comparer_explore_laws.proofs.Growth.{completes-as, overflows-as, completes-then, overflows-then}
+use Rattle.key_set_laws.specs.Growth.{Completes}
+use Rattle.key_set_laws.proofs.Growth.{completes-as, overflows-as, completes-then, overflows-then}
 use Rattle.comparer_explore.specs.ExploreAnswers.{Visited}
 use Rattle.comparer_explore.specs.declared.Explored.{Explored}
 use Rattle.comparer_explore.specs.declared.Explored.the-variants.{Count, TooMany}

@@ -1,5 +1,5 @@
--- What an insertion into the set of keys, a visit of wanted keys and the exploring of a task answer.
-use Prim.Native.Nat.{ℕ, suc}
+-- What a visit of wanted keys and the exploring of a task answer.
+use Prim.Native.Nat.{ℕ}
 use mathlib.Core.Path.{_≡_}
 use mathlib.Core.Bool.{true, false}
 use mathlib.Core.List.{List, map}
@@ -12,17 +12,9 @@ use Rattle.outcome.specs.Compare.{capacity}
 use Rattle.table_laws.specs.Keys.{keyOf}
 use Rattle.table_laws.specs.Sorted.{Permuted}
 use Rattle.table_laws.specs.Table.{keys}
-use Rattle.comparer_explore_laws.specs.Growth.{Completes, Overflows}
+use Rattle.key_set_laws.specs.Growth.{Completes, Overflows}
 use Rattle.comparer_explore.specs.declared.Explored.{Explored}
 use Rattle.comparer_explore.specs.declared.Explored.the-variants.{Count, TooMany}
-use Rattle.comparer_explore.specs.declared.set.Inserted.{Inserted}
-use Rattle.comparer_explore.specs.declared.set.Inserted.the-variants.{Present, Added, Full}
-
--- the first n entries hold the key already; or entry n does now; or there is no entry n
-abbrev pub Inserts : ℕ → ℕ → List ℕ → Inserted → List ℕ → Type 0
-Inserts n k old Present new = Completes (λ x. x ≡ k) n old n new
-Inserts n k old Added new = Completes (λ x. x ≡ k) n old (suc n) new
-Inserts n k old Full new = Overflows (λ x. x ≡ k) n old new
 
 -- all wanted keys are held, by m entries; or one of them has no room
 abbrev pub Visited : (ℕ → Type 0) → ℕ → List ℕ → Explored → List ℕ → Type 0

@@ -1,7 +1,5 @@
 // The successors of a position, by pairs of a left and a right edge of one tag.
 use crate::Explored;
-use crate::set;
-use crate::set::Inserted;
 use fra::Model;
 use fra::Position;
 use fra::Side;
@@ -12,6 +10,7 @@ use game_index::layout::SIZE;
 use game_moves::rounds;
 use game_moves::rounds::Target;
 use game_replies::joint;
+use key_set::Inserted;
 use table::HISTORY_BASE;
 use table::PARTNER_BASE;
 use table::STATE_BASE;
@@ -24,7 +23,7 @@ ghost use Rattle.fra_laws.specs.Joint.{compatible};
 ghost use Rattle.game_index.specs.Reading.{taskIn, rulesIn};
 ghost use Rattle.game_index.specs.Writing.{Index};
 ghost use Rattle.table_laws.specs.Keys.{keyOf, keyLimit};
-ghost use Rattle.comparer_explore_laws.specs.Stored.{Stored};
+ghost use Rattle.key_set_laws.specs.Stored.{Stored};
 ghost use Rattle.comparer_explore_laws.specs.HalfRounds.{inSet};
 ghost use Rattle.comparer_explore_laws.specs.EdgeKeys.{PairKey, RangeKey};
 ghost use Rattle.comparer_explore_laws.specs.Exploring.{SuccessorKey};
@@ -36,7 +35,7 @@ pub fn visit(table: &mut [u8], n: usize, key: u32) -> Explored
     requires { ⌜ Stored n (now table) × (key < keyLimit) ⌝ }
     ensures { λ r. ⌜ Visited (λ k. k ≡ key) n (now (table .entry)) r (now (table .exit)) ⌝ }
 {
-    match set::insert(table, n, key) {
+    match key_set::insert(table, n, key) {
         Inserted::Present => Explored::Count(n),
         Inserted::Added => Explored::Count(n + 1),
         Inserted::Full => Explored::TooMany,

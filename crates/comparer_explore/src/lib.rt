@@ -10,7 +10,6 @@ ghost use Rattle.comparer_explore_laws.specs.Exploring.{Exploring};
 ghost use Rattle.comparer_explore.specs.ExploreAnswers.{Explores};
 
 mod expand;
-mod set;
 
 // How many positions the table holds; or a position has no room.
 pub enum Explored {

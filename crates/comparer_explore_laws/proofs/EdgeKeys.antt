@@ -19,7 +19,7 @@ use Rattle.game_index.specs.declared.Range.{Range}
 use Rattle.game_index.proofs.Reading.{index-model, sized-in, left-attacks}
 use Rattle.game_index.proofs.EdgeRanges.{state-inside, tag-inside, state-range-edge, tag-range-edge}
 use Rattle.table_laws.specs.Keys.{keyOf}
-use Rattle.comparer_explore_laws.specs.Growth.{Among}
+use Rattle.key_set_laws.specs.Growth.{Among}
 use Rattle.comparer_explore_laws.specs.EdgeKeys.{EdgeKey}
 use Rattle.comparer_explore_laws.specs.Exploring.{SuccessorKey}
 

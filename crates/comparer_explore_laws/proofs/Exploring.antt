@@ -28,13 +28,13 @@ use Rattle.table_laws.specs.Sorted.{Permuted}
 use Rattle.table_laws.specs.Table.{keyAt, keys}
 use Rattle.table_laws.proofs.Keys.{position-of-key, key-order, legal-small}
 use Rattle.table_laws.proofs.KeyColumn.{keys-length}
-use Rattle.comparer_explore_laws.specs.Stored.{Holds}
-use Rattle.comparer_explore_laws.specs.Growth.{Completes, Overflows}
+use Rattle.key_set_laws.specs.Stored.{Holds}
+use Rattle.key_set_laws.specs.Growth.{Completes, Overflows}
 use Rattle.comparer_explore_laws.specs.Exploring.{ReachedKey, SuccessorKey, Exploring}
 use Rattle.comparer_explore_laws.proofs.Explored.{names-unique, explored-few, explored-members, explored-length}
-use Rattle.comparer_explore_laws.proofs.Stored.{holds-member, member-holds, keys-unique}
-use Rattle.comparer_explore_laws.proofs.Growth.{grown-all, holds-kept}
-use Rattle.comparer_explore_laws.proofs.Permuted.{unique-permuted}
+use Rattle.key_set_laws.proofs.Stored.{holds-member, member-holds, keys-unique}
+use Rattle.key_set_laws.proofs.Growth.{grown-all, holds-kept}
+use Rattle.key_set_laws.proofs.Permuted.{unique-permuted}
 
 module _ {b : List ℕ} (index : Index b) where
   abbrev g : Rules

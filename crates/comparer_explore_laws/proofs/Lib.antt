@@ -1,11 +1,7 @@
 -- Laws of the set of keys, of how it grows by the keys of successors, and of when exploring has ended.
-pub mod HashChains
-pub mod Growth
-pub mod Stored
 pub mod HalfRounds
 pub mod RoundKeys
 pub mod EdgeKeys
 pub mod PairKeys
-pub mod Permuted
 pub mod Explored
 pub mod Exploring

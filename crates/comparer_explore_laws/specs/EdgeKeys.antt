@@ -16,7 +16,7 @@ use Rattle.game_index.specs.Transitions.{transitionOf}
 use Rattle.game_index.specs.declared.Range.{Range}
 use Rattle.game_index.specs.declared.Transition.{Transition}
 use Rattle.table_laws.specs.Keys.{keyOf}
-use Rattle.comparer_explore_laws.specs.Growth.{Among}
+use Rattle.key_set_laws.specs.Growth.{Among}
 
 -- the edges can take one number in a round, and k is the key of a position after it; whether the history has room for a number
 -- seen before is given

@@ -11,7 +11,7 @@ use Rattle.fra.specs.declared.Position.{Position}
 use Rattle.fra.specs.declared.Task.{Task}
 use Rattle.table_laws.specs.Keys.{keyOf, positionFrom}
 use Rattle.table_laws.specs.Table.{keyAt}
-use Rattle.comparer_explore_laws.specs.Stored.{Stored, Holds}
+use Rattle.key_set_laws.specs.Stored.{Stored, Holds}
 
 -- the key of a position reached
 abbrev pub ReachedKey : Rules → Task → ℕ → Type 0

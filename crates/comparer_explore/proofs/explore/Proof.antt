@@ -4,7 +4,7 @@ use mathlib.Core.Path.{_∙_}
 use denote.Ref.{now}
 use borrow.Author.Needs.{needs}
 use Rattle.game_index.specs.Reading.{taskIn}
-use Rattle.comparer_explore_laws.proofs.Stored.{stored-none}
+use Rattle.key_set_laws.proofs.Stored.{stored-none}
 use Rattle.comparer_explore_laws.proofs.Exploring.{exploring-begins, first-overflows}
 use Rattle.comparer_explore.specs.declared.Explored.the-variants.{TooMany}
 use Rattle.comparer_explore.proofs.Explores.{explores-too-many, explores-from}

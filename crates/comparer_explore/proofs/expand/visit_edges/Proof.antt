@@ -13,9 +13,9 @@ use Rattle.fra_laws.proofs.Tests.{not-both}
 use Rattle.game_index.specs.Reading.{modelIn}
 use Rattle.game_index.specs.Transitions.{transitionOf}
 use Rattle.game_index.specs.declared.Transition.{Transition}
-use Rattle.comparer_explore_laws.specs.Growth.{Passed}
+use Rattle.key_set_laws.specs.Growth.{Passed}
 use Rattle.comparer_explore_laws.specs.EdgeKeys.{PairKey}
-use Rattle.comparer_explore_laws.proofs.Growth.{completes-none, passed-none, passed-next, passed-overflows, passed-all}
+use Rattle.key_set_laws.proofs.Growth.{completes-none, passed-none, passed-next, passed-overflows, passed-all}
 use Rattle.comparer_explore.proofs.expand.visit_edges.Statement.{statement}
 use Rattle.comparer_explore.proofs.expand.visit_edges.Tie as tie
 

@@ -9,8 +9,8 @@ use borrow.Author.Needs.{needs}
 use Rattle.fra.specs.declared.Side.the-variants.{Left}
 use Rattle.fra_laws.specs.Joint.{compatible}
 use Rattle.game_moves.specs.HistorySizes.{firstSize}
-use Rattle.comparer_explore_laws.specs.Growth.{Completes}
-use Rattle.comparer_explore_laws.proofs.Growth.{completes-as, overflows-as}
+use Rattle.key_set_laws.specs.Growth.{Completes}
+use Rattle.key_set_laws.proofs.Growth.{completes-as, overflows-as}
 use Rattle.comparer_explore_laws.proofs.PairKeys.{keyAfter, seenToo, first-key, seen-key, either-key, first-key-alone}
 use Rattle.table_laws.specs.Keys.{keyOf}
 use Rattle.comparer_explore.specs.ExploreAnswers.{Visited}

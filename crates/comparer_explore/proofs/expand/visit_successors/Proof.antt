@@ -4,10 +4,10 @@ use Prim.Native.Nat.{_-_}
 use mathlib.Core.Path.{_∙_}
 use native.Mathlib.Omega.{arith}
 use borrow.Author.Needs.{needs}
-use Rattle.comparer_explore_laws.specs.Growth.{Passed}
+use Rattle.key_set_laws.specs.Growth.{Passed}
 use Rattle.comparer_explore_laws.specs.EdgeKeys.{EdgeKey}
-use Rattle.comparer_explore_laws.proofs.Growth.{completes-as, overflows-as}
-use Rattle.comparer_explore_laws.proofs.Growth.{passed-none, passed-next, passed-overflows, passed-all}
+use Rattle.key_set_laws.proofs.Growth.{completes-as, overflows-as}
+use Rattle.key_set_laws.proofs.Growth.{passed-none, passed-next, passed-overflows, passed-all}
 use Rattle.comparer_explore_laws.proofs.EdgeKeys.{edges-of-successors, successors-of-edges}
 use Rattle.comparer_explore.specs.ExploreAnswers.{Visited}
 use Rattle.comparer_explore.proofs.expand.visit_successors.Statement.{statement}

@@ -4,7 +4,7 @@ use Prim.Native.Nat.{ℕ, suc, _≤_, _<_}
 use mathlib.Core.Path.{_≡_, subst}
 use native.Mathlib.Omega.{arith}
 use native.Mathlib.Decide.{ℕ-discrete}
-use Rattle.comparer_explore_laws.specs.HashChains.{Entries, Visits, here, onward, Falling, Walking, Chained, Adds}
+use Rattle.key_set_laws.specs.HashChains.{Entries, Visits, here, onward, Falling, Walking, Chained, Adds}
 
 -- ── Walks ──
 

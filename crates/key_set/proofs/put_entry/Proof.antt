@@ -1,12 +1,12 @@
--- `comparer_explore::set::put_entry` meets its contract: it writes three words, and the first leaves the heads. Assumes nothing.
+-- `key_set::put_entry` meets its contract: it writes three words, and the first leaves the heads. Assumes nothing.
 use native.Mathlib.Numerals.{add-one}
 use native.Mathlib.Omega.{arith}
 use denote.Ref.{now}
 use borrow.Author.Needs.{needs}
 use Rattle.outcome.specs.Compare.{capacity}
-use Rattle.comparer_explore_laws.proofs.Stored.{head-kept}
-use Rattle.comparer_explore.proofs.set.put_entry.Statement.{statement}
-use Rattle.comparer_explore.proofs.set.put_entry.Tie as tie
+use Rattle.key_set_laws.proofs.Stored.{head-kept}
+use Rattle.key_set.proofs.put_entry.Statement.{statement}
+use Rattle.key_set.proofs.put_entry.Tie as tie
 
 mul-word-at : tie.Need-mul-word-at
 unfolding capacity

@@ -10,7 +10,7 @@ use Rattle.listing.specs.Widths.{entryWidth}
 use Rattle.listing.specs.Words.{putWord}
 use Rattle.table_laws.specs.Keys.{keyLimit}
 use Rattle.table_laws.specs.Table.{keyAt}
-use Rattle.comparer_explore_laws.specs.HashChains.{Entries, Visits, Falling, Chained}
+use Rattle.key_set_laws.specs.HashChains.{Entries, Visits, Falling, Chained}
 
 -- where the link and the head stand in an entry, after its key
 abbrev pub entryLink : ℕ

@@ -1,15 +1,15 @@
--- `comparer_explore::set::walk` meets its contract. The loop's invariant: the link is at most the head, and an entry with the key
+-- `key_set::walk` meets its contract. The loop's invariant: the link is at most the head, and an entry with the key
 -- that the walk from the head visits is visited from here on. The measure is the link, which falls. Assumes nothing.
 use Prim.Native.Nat.{_-_}
 use mathlib.Core.Path.{_≡_, sym, _∙_}
 use native.Mathlib.Omega.{arith}
 use borrow.Author.Needs.{needs}
 use Rattle.outcome.specs.Compare.{capacity}
-use Rattle.comparer_explore_laws.specs.HashChains.{Walking}
-use Rattle.comparer_explore_laws.specs.Stored.{entriesOf}
-use Rattle.comparer_explore_laws.proofs.HashChains.{walking-begins, walking-goes-on, walking-ends}
-use Rattle.comparer_explore.proofs.set.walk.Statement.{statement}
-use Rattle.comparer_explore.proofs.set.walk.Tie as tie
+use Rattle.key_set_laws.specs.HashChains.{Walking}
+use Rattle.key_set_laws.specs.Stored.{entriesOf}
+use Rattle.key_set_laws.proofs.HashChains.{walking-begins, walking-goes-on, walking-ends}
+use Rattle.key_set.proofs.walk.Statement.{statement}
+use Rattle.key_set.proofs.walk.Tie as tie
 
 abbrev Inv-loop : tie.InvT-loop
 Inv-loop table key head at₀ at = Walking (entriesOf table) key head at

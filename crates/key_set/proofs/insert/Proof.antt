@@ -1,14 +1,14 @@
--- `comparer_explore::set::insert` meets its contract: the walk along the chain of the key's bucket says whether the key is held,
+-- `key_set::insert` meets its contract: the walk along the chain of the key's bucket says whether the key is held,
 -- and a key that is not held is added while an entry is left. Assumes nothing.
 use native.Mathlib.Omega.{arith}
 use denote.Ref.{now}
 use borrow.Author.Needs.{needs}
 use Rattle.outcome.specs.Compare.{capacity}
-use Rattle.comparer_explore_laws.specs.Stored.{Holds}
-use Rattle.comparer_explore_laws.proofs.Stored.{stored-few, chain-walkable, walk-meets, walk-misses}
-use Rattle.comparer_explore_laws.proofs.Stored.{completes-held, completes-adds, overflows-full}
-use Rattle.comparer_explore.proofs.set.insert.Statement.{statement}
-use Rattle.comparer_explore.proofs.set.insert.Tie as tie
+use Rattle.key_set_laws.specs.Stored.{Holds}
+use Rattle.key_set_laws.proofs.Stored.{stored-few, chain-walkable, walk-meets, walk-misses}
+use Rattle.key_set_laws.proofs.Stored.{completes-held, completes-adds, overflows-full}
+use Rattle.key_set.proofs.insert.Statement.{statement}
+use Rattle.key_set.proofs.insert.Tie as tie
 
 returns : tie.Need-returns
 unfolding capacity

@@ -7,8 +7,8 @@ ghost use Prim.Native.Nat.{_+_, _*_, _≤_, _<_};
 ghost use mathlib.Core.Path.{_≡_};
 ghost use Rattle.outcome.specs.Compare.{capacity};
 ghost use Rattle.table_laws.specs.Keys.{keyLimit};
-ghost use Rattle.comparer_explore_laws.specs.Stored.{bucketOf, withEntry, Stored, Walkable, Walked};
-ghost use Rattle.comparer_explore.specs.ExploreAnswers.{Inserts};
+ghost use Rattle.key_set_laws.specs.Stored.{bucketOf, withEntry, Stored, Walkable, Walked};
+ghost use Rattle.key_set.specs.Insertions.{Inserts};
 
 // Where an entry's link and the head of its bucket stand in it.
 const LINK: usize = 4;

@@ -8,8 +8,8 @@ use native.Mathlib.Decide.{ℕ-discrete, decLt}
 use Rattle.outcome.specs.Compare.{capacity}
 use Rattle.listing.specs.Widths.{entryWidth}
 use Rattle.table_laws.specs.Table.{keyAt}
-use Rattle.comparer_explore_laws.specs.Stored.{Stored, Holds}
-use Rattle.comparer_explore_laws.specs.Growth.{Grows, Completes, Overflows, Among, Passed}
+use Rattle.key_set_laws.specs.Stored.{Stored, Holds}
+use Rattle.key_set_laws.specs.Growth.{Grows, Completes, Overflows, Among, Passed}
 
 -- ── Step by step ──
 

@@ -21,12 +21,12 @@ use Rattle.listing.proofs.WordLaws.{read-word, read-other-word}
 use Rattle.table_laws.specs.Keys.{keyLimit}
 use Rattle.table_laws.specs.Table.{keyAt, keys}
 use Rattle.table_laws.proofs.KeyColumn.{keys-length}
-use Rattle.comparer_explore_laws.specs.HashChains.{Chained, Adds}
-use Rattle.comparer_explore_laws.specs.Stored.{linkPlace, linkAt, headPlace, headAt, entriesOf, withEntry, Stored, Holds}
-use Rattle.comparer_explore_laws.specs.Stored.{mostBuckets, hashLimit, hashOf, bucketOf, Walkable, Walked}
-use Rattle.comparer_explore_laws.specs.Growth.{Grows, Completes, Overflows}
-use Rattle.comparer_explore_laws.proofs.Growth.{grows-none}
-use Rattle.comparer_explore_laws.proofs.HashChains.{chained-adds, chained-none, chained-missing}
+use Rattle.key_set_laws.specs.HashChains.{Chained, Adds}
+use Rattle.key_set_laws.specs.Stored.{linkPlace, linkAt, headPlace, headAt, entriesOf, withEntry, Stored, Holds}
+use Rattle.key_set_laws.specs.Stored.{mostBuckets, hashLimit, hashOf, bucketOf, Walkable, Walked}
+use Rattle.key_set_laws.specs.Growth.{Grows, Completes, Overflows}
+use Rattle.key_set_laws.proofs.Growth.{grows-none}
+use Rattle.key_set_laws.proofs.HashChains.{chained-adds, chained-none, chained-missing}
 
 -- ── The keys ──
 

@@ -5,7 +5,7 @@ use mathlib.Core.List.{List}
 use lib.ListN.{length}
 use Rattle.outcome.specs.Compare.{capacity}
 use Rattle.table_laws.specs.Table.{keyAt}
-use Rattle.comparer_explore_laws.specs.Stored.{Stored, Holds}
+use Rattle.key_set_laws.specs.Stored.{Stored, Holds}
 
 -- n entries have become m: they stay, and wanted keys came after them
 pub record Grows (Wanted : ℕ → Type 0) (n : ℕ) (old : List ℕ) (m : ℕ) (new : List ℕ) : Type 0 where

@@ -1,0 +1,2 @@
+-- What the functions on the set answer.
+pub mod Insertions

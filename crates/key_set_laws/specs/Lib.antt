@@ -1,0 +1,4 @@
+-- A set of keys in the lent table, and how it grows.
+pub mod HashChains
+pub mod Stored
+pub mod Growth

@@ -5,6 +5,8 @@ use fra::Model;
 use fra::Position;
 
 // A side begins with two bytes, its registers and its start state, and the counts of its states and edges.
+pub const REGISTER_COUNT: usize = 0;
+
 pub const STATE_COUNT: usize = 2;
 
 pub const EDGE_COUNT: usize = 3;

@@ -51,6 +51,12 @@ fn byte_of(index: &[u8; layout::SIZE], side: Side, i: usize) -> u8
     }
 }
 
+pub fn register_count(index: &[u8; layout::SIZE], side: Side) -> u8
+    ensures { λ r. ⌜ r ≡ modelIn (now (index .entry)) side .registers ⌝ }
+{
+    byte_of(index, side, layout::REGISTER_COUNT)
+}
+
 pub fn state_count(index: &[u8; layout::SIZE], side: Side) -> u8
     ensures { λ r. ⌜ r ≡ modelIn (now (index .entry)) side .«state_count» ⌝ }
 {

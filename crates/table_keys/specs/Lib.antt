@@ -1,0 +1,2 @@
+-- Keys of positions, sized to a task.
+pub mod Keys

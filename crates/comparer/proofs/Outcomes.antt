@@ -28,8 +28,10 @@ use Rattle.listing.specs.Widths.{entryWidth}
 use Rattle.listing.specs.Listing.{ofTable, Searchable}
 use Rattle.game_index.specs.Reading.{taskIn, rulesIn}
 use Rattle.game_index.specs.Writing.{Index}
+use Rattle.table_keys.specs.Keys.{keyCount, radixOf}
+use Rattle.table_keys.proofs.Keys.{radix-sized}
 use Rattle.table_laws.specs.Sorted.{sorted}
-use Rattle.table_laws.specs.Table.{keys, withKeys, laidOut}
+use Rattle.table_laws.specs.Table.{keys, KeysBelow, withKeys, laidOut}
 use Rattle.table_laws.proofs.KeyColumn.{keys-length}
 use Rattle.table_laws.proofs.LayingOut.{laidOut-length}
 use Rattle.comparer_explore.specs.ExploreAnswers.{exploredIn, Explores}
@@ -38,7 +40,7 @@ use Rattle.comparer_rank_laws.specs.EntryRows.{rows}
 use Rattle.fra_laws.proofs.LegalPositions.{mostPositions}
 use Rattle.comparer_rank_laws.proofs.FewPositions.{few-states, few-positions}
 use Rattle.comparer_rank.specs.RankPasses.{reachedIn, Begins}
-use Rattle.comparer_laws.proofs.Arranged.{arranged, entries-length}
+use Rattle.comparer_laws.proofs.Arranged.{ordered-below, arranged, entries-length}
 use Rattle.comparer_certify_laws.specs.Marking.{roundsFor}
 use Rattle.comparer_certify_laws.proofs.RankedTables.{ranked-searchable, start-rounds}
 use Rattle.comparer_certify.specs.RecordFields.{contestIn}
@@ -116,7 +118,7 @@ module _ (b : List ℕ) {old new : List ℕ} where
         let (e, f) = fits in
         let room : length (reachedIn b) ≤ length old / entryWidth = ltb-false (length old / entryWidth) (length (reachedIn b)) f in
         let long = h .long in
-        record { counted = e; room = omega arith; found = h .found n refl }
+        record { counted = e; room = omega arith; found = h .found n refl; stored = h .stored n refl }
 
     -- what follows depends on the table's length alone
     pub found-judged : {r : Comparison} {table : List ℕ} {certificate : List ℕ} (mid buffer : List ℕ) → length mid ≡ length old
@@ -173,17 +175,24 @@ module _ {b : List ℕ} (index : Index b) where
   few = few-positions index g
 
   wide : length (entries g t) ≡ length (reached g t) * entryWidth
-  wide = entries-length valid (few-states index Left) (few-states index Right) g
+  wide = entries-length valid (radix-sized index) g
 
-  -- the keys found, sorted and laid out
+  -- the keys found, in order
+  pub in-order-below : {n : ℕ} {table x : List ℕ} → Found b n table → x ≡ withKeys (sorted (keys n table)) table
+      → KeysBelow (keyCount (radixOf t)) n x
+  in-order-below f d =
+      rw (d, f .counted)
+      (ordered-below valid (radix-sized index) g _ (rw (f .counted) at (f .room)) (rw (f .counted) at (f .found)))
+
+  -- and laid out
   pub laid-out : {n : ℕ} {table x y : List ℕ} → Found b n table → x ≡ withKeys (sorted (keys n table)) table
-      → y ≡ laidOut (keys n x) ++ drop (n * entryWidth) x
+      → y ≡ laidOut (radixOf t) (keys n x) ++ drop (n * entryWidth) x
       → Begins b (λ p. allOnes) n y
   laid-out {n} {table} {x} {y} f d e =
-      let all = arranged valid (few-states index Left) (few-states index Right) g table (rw (f .counted) at (f .room)) (rw (f .counted) at (f .found)) in
-      let same : laidOut (keys n x) ≡ rows (λ p. allOnes) (reached g t) = rw (d, f .counted) all in
-      let long : length (laidOut (keys n x)) ≡ n * entryWidth =
-      laidOut-length (keys n x) ∙ ap (λ (m : ℕ). m * entryWidth) (keys-length n x) in
+      let all = arranged valid (radix-sized index) g table (rw (f .counted) at (f .room)) (rw (f .counted) at (f .found)) in
+      let same : laidOut (radixOf t) (keys n x) ≡ rows (λ p. allOnes) (reached g t) = rw (d, f .counted) all in
+      let long : length (laidOut (radixOf t) (keys n x)) ≡ n * entryWidth =
+      laidOut-length (radixOf t) (keys n x) (radix-sized index) ∙ ap (λ (m : ℕ). m * entryWidth) (keys-length n x) in
       record {
         counted = f .counted;
         begins =

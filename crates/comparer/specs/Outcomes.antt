@@ -14,15 +14,17 @@ use Rattle.outcome.specs.declared.Comparison.{Comparison}
 use Rattle.listing.specs.Widths.{entryWidth}
 use Rattle.game_index.specs.Reading.{taskIn, rulesIn}
 use Rattle.comparer_certify.specs.RecordFields.{contestIn}
-use Rattle.table_laws.specs.Keys.{keyOf}
+use Rattle.table_keys.specs.Keys.{keyOf, keyCount, radixOf}
 use Rattle.table_laws.specs.Sorted.{Permuted}
 use Rattle.table_laws.specs.Table.{keys}
+use Rattle.key_set_laws.specs.Stored.{Stored}
 
--- the first n entries hold the keys of the positions reached, in some order
+-- the first n keys are those of the positions reached, in some order, and a set of them
 pub record Found (b : List ℕ) (n : ℕ) (table : List ℕ) : Type 0 where
   pub counted : n ≡ length (reached (rulesIn b) (taskIn b))
   pub room : n * entryWidth ≤ length table
-  pub found : Permuted (keys n table) (map keyOf (reached (rulesIn b) (taskIn b)))
+  pub found : Permuted (keys n table) (map (keyOf (radixOf (taskIn b))) (reached (rulesIn b) (taskIn b)))
+  pub stored : Stored (keyCount (radixOf (taskIn b))) n table
 
 -- the outcome of a comparison of the models of an index, and of one whose table has the rounds of all positions reached
 abbrev pub outcomeIn : List ℕ → List ℕ → List ℕ → Outcome

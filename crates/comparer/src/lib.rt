@@ -9,6 +9,7 @@ use outcome::Standing;
 use outcome::Verdict;
 use outcome::layout::ENTRY;
 use outcome::layout::NEVER;
+use table_keys::Radix;
 use task::Answer;
 ghost use Prim.Native.Nat.{_^_, _<_};
 ghost use mathlib.Core.Path.{_≡_};
@@ -58,8 +59,9 @@ fn settle(table: &mut [u8], n: usize, index: &[u8; SIZE])
     requires { ⌜ Found (now index) n (now table) ⌝ }
     ensures { λ _. ⌜ Ranked (now (index .entry)) n (now (table .exit)) ⌝ }
 {
-    table_sorting::sort_keys(table, n);
-    table::lay_out(table, n);
+    let radix = Radix::of(index);
+    key_set::put_in_order(table, n, radix.key_count());
+    table::lay_out(table, n, radix);
     comparer_rank::rank(table, n, index);
 }
 

@@ -15,9 +15,10 @@ use Rattle.outcome.specs.Compare.{capacity}
 use Rattle.listing.specs.Widths.{entryWidth}
 use Rattle.game_index.specs.Reading.{taskIn, rulesIn}
 use Rattle.game_index.specs.Writing.{Index}
-use Rattle.table_laws.specs.Keys.{keyOf}
+use Rattle.table_keys.specs.Keys.{keyOf, keyCount, radixOf}
 use Rattle.table_laws.specs.Sorted.{Permuted}
 use Rattle.table_laws.specs.Table.{keys}
+use Rattle.key_set_laws.specs.Stored.{Stored}
 use Rattle.comparer_explore_laws.specs.Exploring.{Exploring}
 use Rattle.comparer_explore_laws.proofs.Exploring.{exploring-count, exploring-keys}
 use Rattle.comparer_explore.specs.ExploreAnswers.{exploredIn, Explores}
@@ -40,7 +41,8 @@ explores-all {b} {n} {done} {new} old index e l =
       long = e .long;
       found = λ k d.
           let same : n ≡ k = cc in
-          subst (λ x. Permuted (keys x new) (map keyOf all)) same (exploring-keys index ended);
+          subst (λ x. Permuted (keys x new) (map (keyOf (radixOf (taskIn b))) all)) same (exploring-keys index ended);
+      stored = λ k d. let same : n ≡ k = cc in subst (λ x. Stored (keyCount (radixOf (taskIn b))) x new) same (e .stored);
     }
   where
     all : List Position
@@ -62,6 +64,7 @@ explores-too-many {g} {t} {old} h long =
       answer = rw (lt-ltb (capacity old) (length (reached g t)) h, exploredIn);
       long = long;
       found = λ n d. absurd (too-many-count d);
+      stored = λ n d. absurd (too-many-count d);
     }
 
 -- only the length of the table at entry counts
@@ -74,4 +77,5 @@ explores-from {g} {t} r same e =
       answer = e .answer ∙ ap (λ n. exploredIn (n / entryWidth) (length (reached g t))) same;
       long = e .long ∙ same;
       found = e .found;
+      stored = e .stored;
     }

@@ -2,3 +2,4 @@
 mod Visited
 mod Explores
 pub mod HalfRounds
+mod Sources

@@ -11,31 +11,39 @@ use game_moves::rounds;
 use game_moves::rounds::Target;
 use game_replies::joint;
 use key_set::Inserted;
-use table::HISTORY_BASE;
-use table::PARTNER_BASE;
-use table::STATE_BASE;
-ghost use Prim.Native.Nat.{_<_};
+use table_keys::PARTNER_BASE;
+use table_keys::Radix;
+ghost use Prim.Native.Nat.{_≤_, _<_};
 ghost use mathlib.Core.Path.{_≡_};
 ghost use mathlib.Core.Bool.{true};
-ghost use Rattle.fra.specs.Position.{legal};
 ghost use Rattle.fra.specs.declared.Side.the-variants.{Left};
 ghost use Rattle.fra_laws.specs.Joint.{compatible};
 ghost use Rattle.game_index.specs.Reading.{taskIn, rulesIn};
 ghost use Rattle.game_index.specs.Writing.{Index};
-ghost use Rattle.table_laws.specs.Keys.{keyOf, keyLimit};
+ghost use Rattle.table_keys.specs.Keys.{keyOf, keyLimit, Sized, Fits};
 ghost use Rattle.key_set_laws.specs.Stored.{Stored};
 ghost use Rattle.comparer_explore_laws.specs.HalfRounds.{inSet};
-ghost use Rattle.comparer_explore_laws.specs.EdgeKeys.{PairKey, RangeKey};
-ghost use Rattle.comparer_explore_laws.specs.Exploring.{SuccessorKey};
+ghost use Rattle.comparer_explore_laws.specs.EdgeKeys.{PairKey, PairFits, RangeKey, RangeFits};
+ghost use Rattle.comparer_explore_laws.specs.Exploring.{SuccessorKey, Expandable};
 ghost use Rattle.comparer_explore.specs.ExploreAnswers.{Visited};
 ghost use Rattle.comparer_explore.specs.HalfRounds.{halfOf, joinedTo};
+ghost use Rattle.comparer_explore.specs.Sources.{sourceOf, Keyed};
 
-// Inserts a key.
-pub fn visit(table: &mut [u8], n: usize, key: u32) -> Explored
-    requires { ⌜ Stored n (now table) × (key < keyLimit) ⌝ }
-    ensures { λ r. ⌜ Visited (λ k. k ≡ key) n (now (table .entry)) r (now (table .exit)) ⌝ }
+// A position that is expanded: whether the history has room for a number seen before, what its keys are sized by, and how many keys
+// there are.
+pub struct Source {
+    pub position: Position,
+    pub room: bool,
+    pub radix: Radix,
+    pub keys: u32,
+}
+
+// Inserts a key, which is one of so many.
+pub fn visit(table: &mut [u8], n: usize, key: u32, keys: u32) -> Explored
+    requires { ⌜ Stored keys n (now table) × (key < keys) × (keys ≤ keyLimit) ⌝ }
+    ensures { λ r. ⌜ Visited keys (λ k. k ≡ key) n (now (table .entry)) r (now (table .exit)) ⌝ }
 {
-    match key_set::insert(table, n, key) {
+    match key_set::insert(table, n, key, keys) {
         Inserted::Present => Explored::Count(n),
         Inserted::Added => Explored::Count(n + 1),
         Inserted::Full => Explored::TooMany,
@@ -74,18 +82,19 @@ fn left_half(p: Position, left: Target) -> Half
 
 // The key of the position after both halves of a round, where the history then has this size, digit by digit: the position is not
 // made.
-fn key_after(half: Half, size: u8, left: u8, right: Target) -> u32
-    ensures { λ r. ⌜ (r ≡ keyOf (joinedTo half size left right)) × (r < keyLimit) ⌝ }
+fn key_after(radix: Radix, half: Half, size: u8, left: u8, right: Target) -> u32
+    requires { ⌜ Sized radix × Fits radix (joinedTo half size left right) ⌝ }
+    ensures { λ r. ⌜ r ≡ keyOf radix (joinedTo half size left right) ⌝ }
 {
     let before = half.partners;
-    let mut key = (left as u32) % STATE_BASE * STATE_BASE + (right.state as u32) % STATE_BASE;
+    let mut front = (left as u32) * (radix.right as u32) + (right.state as u32);
     let mut i: u8 = 0;
-    while i < Model::REGISTERS {
+    while i < radix.registers {
         let x = rounds::rejoined(half.register, right.register, i + 1, before[i as usize]);
-        key = key * PARTNER_BASE + (in_set(right.set, x) as u32);
+        front = front * PARTNER_BASE + (in_set(right.set, x) as u32);
         i += 1;
     }
-    key * HISTORY_BASE + (size as u32)
+    front * radix.sizes() + ((size - radix.least) as u32)
 }
 
 // Inserts the keys of the positions that a left and a right edge lead to, which can take one number. Two locally fresh edges take
@@ -93,31 +102,32 @@ fn key_after(half: Half, size: u8, left: u8, right: Target) -> u32
 fn visit_pair(
     table: &mut [u8],
     n: usize,
-    p: Position,
-    room: bool,
+    source: Source,
     half: Half,
     left: Transition,
     right: Transition,
 ) -> Explored
-    requires { ⌜ Stored n (now table) ⌝ }
-    requires { ⌜ (half ≡ halfOf p (left .target)) × (compatible p Left (left .kind) (right .kind) ≡ true) ⌝ }
-    ensures { λ r. ⌜ Visited (PairKey room p left right) n (now (table .entry)) r (now (table .exit)) ⌝ }
+    requires { ⌜ Stored (source .keys) n (now table) × Keyed source ⌝ }
+    requires { ⌜ (half ≡ halfOf (source .position) (left .target)) × (compatible (source .position) Left (left .kind) (right .kind) ≡ true) ⌝ }
+    requires { ⌜ PairFits (source .radix) (source .room) (source .position) left right ⌝ }
+    ensures { λ r. ⌜ Visited (source .keys) (PairKey (source .radix) (source .room) (source .position) left right) n
+        (now (table .entry)) r (now (table .exit)) ⌝ }
 {
+    let p = source.position;
+    let radix = source.radix;
+    let keys = source.keys;
     let kind = left.kind;
     let other_kind = right.kind;
     let target = left.target;
     let other_target = right.target;
     let size = rounds::size_after(kind, other_kind, p.history);
-    let Explored::Count(m) = visit(table, n, key_after(half, size, target.state, other_target))
-    else {
+    let key = key_after(radix, half, size, target.state, other_target);
+    let Explored::Count(m) = visit(table, n, key, keys) else {
         return Explored::TooMany;
     };
-    if room & (size != p.history) & rounds::also_seen(kind, other_kind) {
-        return visit(
-            table,
-            m,
-            key_after(half, p.history, target.state, other_target),
-        );
+    if source.room & (size != p.history) & rounds::also_seen(kind, other_kind) {
+        let seen = key_after(radix, half, p.history, target.state, other_target);
+        return visit(table, m, seen, keys);
     }
     Explored::Count(m)
 }
@@ -126,16 +136,18 @@ fn visit_pair(
 fn visit_edges(
     table: &mut [u8],
     n: usize,
-    p: Position,
-    room: bool,
+    source: Source,
     left: Transition,
     index: &[u8; SIZE],
     edges: Range,
 ) -> Explored
-    requires { ⌜ Stored n (now table) ⌝ }
+    requires { ⌜ Stored (source .keys) n (now table) × Keyed source ⌝ }
     requires { ⌜ Index (now index) ⌝ }
-    ensures { λ r. ⌜ Visited (RangeKey (now (index .entry)) room p left edges) n (now (table .entry)) r (now (table .exit)) ⌝ }
+    requires { ⌜ RangeFits (now index) (source .radix) (source .room) (source .position) left edges ⌝ }
+    ensures { λ r. ⌜ Visited (source .keys) (RangeKey (now (index .entry)) (source .radix) (source .room) (source .position) left edges) n
+        (now (table .entry)) r (now (table .exit)) ⌝ }
 {
+    let p = source.position;
     let half = left_half(p, left.target);
     let partners = p.partners;
     let kind = left.kind;
@@ -146,7 +158,7 @@ fn visit_edges(
         let right = game_index::transition_at(index, Side::Right, k);
         let other_kind = right.kind;
         if joint(&partners, kind, other_kind) {
-            let Explored::Count(more) = visit_pair(table, m, p, room, half, left, right) else {
+            let Explored::Count(more) = visit_pair(table, m, source, half, left, right) else {
                 return Explored::TooMany;
             };
             m = more;
@@ -157,14 +169,14 @@ fn visit_edges(
 }
 
 // Inserts the successors of a position.
-pub fn visit_successors(table: &mut [u8], n: usize, index: &[u8; SIZE], p: Position) -> Explored
-    requires { ⌜ Stored n (now table) ⌝ }
+pub fn visit_successors(table: &mut [u8], n: usize, index: &[u8; SIZE], source: Source) -> Explored
+    requires { ⌜ Stored (source .keys) n (now table) ⌝ }
     requires { ⌜ Index (now index) ⌝ }
-    requires { ⌜ legal 6 (taskIn (now index)) p ≡ true ⌝ }
-    ensures { λ r. ⌜ Visited (SuccessorKey (rulesIn (now (index .entry))) (taskIn (now (index .entry))) p) n
+    requires { ⌜ (source ≡ sourceOf (taskIn (now index)) (source .position)) × Expandable (taskIn (now index)) (source .position) ⌝ }
+    ensures { λ r. ⌜ Visited (source .keys) (SuccessorKey (rulesIn (now (index .entry))) (taskIn (now (index .entry))) (source .position)) n
         (now (table .entry)) r (now (table .exit)) ⌝ }
 {
-    let room = game_index::has_room(index, p);
+    let p = source.position;
     let edges = game_index::edges_of(index, Side::Left, p.left);
     let end = edges.end;
     let mut m = n;
@@ -173,7 +185,7 @@ pub fn visit_successors(table: &mut [u8], n: usize, index: &[u8; SIZE], p: Posit
         let e = game_index::edge_at(index, Side::Left, k);
         let left = game_index::transition_at(index, Side::Left, k);
         let others = game_index::tagged(index, Side::Right, p.right, e.tag);
-        let Explored::Count(more) = visit_edges(table, m, p, room, left, index, others) else {
+        let Explored::Count(more) = visit_edges(table, m, source, left, index, others) else {
             return Explored::TooMany;
         };
         m = more;

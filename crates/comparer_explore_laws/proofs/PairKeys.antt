@@ -4,27 +4,28 @@ use Prim.Native.Nat.{ℕ}
 use mathlib.Core.Path.{_≡_, refl, sym, _∙_, ap}
 use mathlib.Core.Logic.{_⊎_, inl, inr}
 use mathlib.Core.Bool.{Bool, true, false, not, cond, _&&_}
-use mathlib.Core.List.{[], _∷_, List·Memᴰ·head, List·Memᴰ·tail, List·Memᴰ·not-nil, List·Memᴰ·cases-cons, List·Memᴰ·eq-of-singleton}
+use mathlib.Core.List.{List, [], _∷_, List·Memᴰ·head, List·Memᴰ·tail, List·Memᴰ·not-nil, List·Memᴰ·cases-cons, List·Memᴰ·eq-of-singleton}
 use lib.Dec.{eqb}
 use borrow.Author.Tests.{eqb-true, not-false}
 use Rattle.fra.specs.Lists.{_∈_}
 use Rattle.fra.specs.declared.Position.{Position}
 use Rattle.fra.specs.declared.Side.the-variants.{Left}
-use Rattle.fra_laws.specs.Joint.{compatible}
+use Rattle.fra_laws.specs.Joint.{compatible, sizesAfter}
 use Rattle.fra_laws.proofs.Tests.{and-left, and-right, and-intro, fails-unless, not-both}
 use Rattle.game_moves.specs.AfterRound.{movedTo}
 use Rattle.game_moves.specs.HistorySizes.{firstSize, bothLocallyFresh}
 use Rattle.game_moves.proofs.HistorySizes.{sizes-one-by-one}
 use Rattle.game_index.specs.declared.Transition.{Transition}
-use Rattle.table_laws.specs.Keys.{keyOf}
+use Rattle.table_keys.specs.Keys.{keyOf}
+use Rattle.table_keys.specs.declared.Radix.{Radix}
 use Rattle.comparer_explore_laws.specs.EdgeKeys.{PairKey}
 
-module _ (room : Bool) (p : Position) (left right : Transition) where
+module _ (x : Radix) (room : Bool) (p : Position) (left right : Transition) where
   abbrev size : ℕ
   size = firstSize 6 (p .history) (left .kind) (right .kind)
 
   abbrev pub keyAfter : ℕ → ℕ
-  keyAfter n = keyOf (movedTo p n (left .target) (right .target))
+  keyAfter n = keyOf x (movedTo p n (left .target) (right .target))
 
   abbrev both : Bool
   both = bothLocallyFresh (left .kind) (right .kind)
@@ -36,23 +37,27 @@ module _ (room : Bool) (p : Position) (left right : Transition) where
   abbrev pub seenToo : Bool
   seenToo = room && raised && both
 
-  module _ (joint : compatible p Left (left .kind) (right .kind) ≡ true) where
-    pub first-key : (k : ℕ) → k ≡ keyAfter size → PairKey room p left right k
-    first-key k e =
-        (joint, size, rw (sizes-one-by-one 6 room (p .history) (left .kind) (right .kind)) (List·Memᴰ·head refl), e)
+  abbrev sizes : List ℕ
+  sizes = sizesAfter 6 room (p .history) (left .kind) (right .kind)
 
-    pub seen-key : seenToo ≡ true → (k : ℕ) → k ≡ keyAfter (p .history) → PairKey room p left right k
-    seen-key h k e =
-        let tried : (both && room) ≡ true =
-        and-intro both room (and-right (room && raised) both h) (and-left room raised (and-left (room && raised) both h)) in (
-          joint,
-          p .history,
-          rw (sizes-one-by-one 6 room (p .history) (left .kind) (right .kind), tried) (List·Memᴰ·tail (List·Memᴰ·head refl)),
-          e,
-        )
+  pub first-size : size ∈ sizes
+  first-size = rw (sizes-one-by-one 6 room (p .history) (left .kind) (right .kind)) (List·Memᴰ·head refl)
+
+  pub seen-size : seenToo ≡ true → p .history ∈ sizes
+  seen-size h =
+      let tried : (both && room) ≡ true =
+      and-intro both room (and-right (room && raised) both h) (and-left room raised (and-left (room && raised) both h)) in
+      rw (sizes-one-by-one 6 room (p .history) (left .kind) (right .kind), tried) (List·Memᴰ·tail (List·Memᴰ·head refl))
+
+  module _ (joint : compatible p Left (left .kind) (right .kind) ≡ true) where
+    pub first-key : (k : ℕ) → k ≡ keyAfter size → PairKey x room p left right k
+    first-key k e = (joint, size, first-size, e)
+
+    pub seen-key : seenToo ≡ true → (k : ℕ) → k ≡ keyAfter (p .history) → PairKey x room p left right k
+    seen-key h k e = (joint, p .history, seen-size h, e)
 
   -- there are no others
-  pub pair-keys : (k : ℕ) → PairKey room p left right k
+  pub pair-keys : (k : ℕ) → PairKey x room p left right k
       → (k ≡ keyAfter size) ⊎ (((both && room) ≡ true) × (k ≡ keyAfter (p .history)))
   pair-keys k (joint, n, m, e) =
       step (both && room) refl
@@ -68,7 +73,7 @@ module _ (room : Bool) (p : Position) (left right : Transition) where
       step true q (inr i) = inr (q, e ∙ ap keyAfter (List·Memᴰ·eq-of-singleton (rw q at i)))
       step false q (inr i) = absurd (List·Memᴰ·not-nil (rw q at i))
 
-  pub either-key : (k : ℕ) → PairKey room p left right k → (k ≡ keyAfter size) ⊎ (k ≡ keyAfter (p .history))
+  pub either-key : (k : ℕ) → PairKey x room p left right k → (k ≡ keyAfter size) ⊎ (k ≡ keyAfter (p .history))
   either-key k w = step (pair-keys k w)
     where
       step : (k ≡ keyAfter size) ⊎ (((both && room) ≡ true) × (k ≡ keyAfter (p .history)))
@@ -76,7 +81,7 @@ module _ (room : Bool) (p : Position) (left right : Transition) where
       step (inl e) = inl e
       step (inr (b, e)) = inr e
 
-  pub first-key-alone : seenToo ≡ false → (k : ℕ) → PairKey room p left right k → k ≡ keyAfter size
+  pub first-key-alone : seenToo ≡ false → (k : ℕ) → PairKey x room p left right k → k ≡ keyAfter size
   first-key-alone h k w = step (pair-keys k w)
     where
       step : (k ≡ keyAfter size) ⊎ (((both && room) ≡ true) × (k ≡ keyAfter (p .history)))

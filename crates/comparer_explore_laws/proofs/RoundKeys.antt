@@ -4,8 +4,8 @@ use mathlib.Core.Path.{_≡_, sym, _∙_}
 use mathlib.Core.List.{List}
 use lib.ListN.{length, getD, drop}
 use Rattle.listing.specs.Digits.{value}
-use Rattle.table_laws.specs.Keys.{partnerBase}
-use Rattle.table_laws.proofs.Keys.{value-digit, value-end}
+use Rattle.table_keys.specs.Keys.{partnerBase}
+use Rattle.table_keys.proofs.Keys.{value-digit, value-end}
 
 -- the digits from place i on continue a number to what all of them make of the first one
 abbrev pub Continues : ℕ → List ℕ → ℕ → ℕ → Type 0

@@ -45,15 +45,16 @@ size-grows r New size = step (ltb size (mostSeen r))
     step true = omega arith
     step false = omega arith
 
-pub history-grows : (g : Rules) (t : Task) {p : Position} → Reached g t p → t .start .history ≤ p .history
+pub successors-grow : (g : Rules) (t : Task) (p q : Position) → q ∈ successors g t p → p .history ≤ q .history
 unfolding successors after moved
-history-grows g t c =
-    closure-keeps (λ p. t .start .history ≤ p .history) (omega arith)
-    (λ p q h m.
+successors-grow g t p q m =
     let (a, i, n) = flatMap-elim (λ a. map (after t p a) (replies t p a)) (attacks g t p) m in
     let (k, j, e) = Memᴰ·of-map (after t p a) (replies t p a) n in
-    rw (← e) (le-trans h (size-grows (length (p .partners)) (a .case) (p .history))))
-    c
+    rw (← e) (size-grows (length (p .partners)) (a .case) (p .history))
+
+pub history-grows : (g : Rules) (t : Task) {p : Position} → Reached g t p → t .start .history ≤ p .history
+history-grows g t c =
+    closure-keeps (λ p. t .start .history ≤ p .history) (omega arith) (λ p q h m. le-trans h (successors-grow g t p q m)) c
 
 module _ {r : ℕ} {t : Task} (valid : Valid r t) where
   -- the fuel is no less than the number of legal positions

@@ -6,8 +6,8 @@ use Rattle.key_set_laws.specs.Growth.{Completes, Overflows}
 use Rattle.key_set.specs.declared.Inserted.{Inserted}
 use Rattle.key_set.specs.declared.Inserted.the-variants.{Present, Added, Full}
 
--- the first n entries hold the key already; or entry n does now; or there is no entry n
-abbrev pub Inserts : ℕ → ℕ → List ℕ → Inserted → List ℕ → Type 0
-Inserts n k old Present new = Completes (λ x. x ≡ k) n old n new
-Inserts n k old Added new = Completes (λ x. x ≡ k) n old (suc n) new
-Inserts n k old Full new = Overflows (λ x. x ≡ k) n old new
+-- the key is one of the first n already; or it is key n now; or there is no entry n
+abbrev pub Inserts : ℕ → ℕ → ℕ → List ℕ → Inserted → List ℕ → Type 0
+Inserts space n k old Present new = Completes space (λ x. x ≡ k) n old n new
+Inserts space n k old Added new = Completes space (λ x. x ≡ k) n old (suc n) new
+Inserts space n k old Full new = Overflows space (λ x. x ≡ k) n old new

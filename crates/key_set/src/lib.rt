@@ -1,27 +1,17 @@
-// The set of keys in the table: a chained hash set with a bucket for each entry. An entry's three words are a key, its link, and
-// the head of the bucket of the same number; a link or head is an index plus one, or 0 for none.
-use listing::words::put_word;
-use listing::words::word_at;
+// The set of keys in the lent table: it begins with a column of words, the keys found, in order of discovery. Whether a key is among
+// them is told by a bit for each possible key where these fit behind two words for each entry, and by hash chains otherwise.
+mod bits;
+mod chains;
+
 use outcome::layout::ENTRY;
-ghost use Prim.Native.Nat.{_+_, _*_, _≤_, _<_};
+ghost use Prim.Native.Nat.{_≤_, _<_};
 ghost use mathlib.Core.Path.{_≡_};
-ghost use Rattle.outcome.specs.Compare.{capacity};
-ghost use Rattle.table_laws.specs.Keys.{keyLimit};
-ghost use Rattle.key_set_laws.specs.Stored.{bucketOf, withEntry, Stored, Walkable, Walked};
+ghost use Rattle.table_keys.specs.Keys.{keyLimit};
+ghost use Rattle.table_laws.specs.Sorted.{sorted};
+ghost use Rattle.table_laws.specs.Table.{keys, withKeys};
+ghost use Rattle.key_set_laws.specs.Bits.{bitsFit};
+ghost use Rattle.key_set_laws.specs.Stored.{Stored};
 ghost use Rattle.key_set.specs.Insertions.{Inserts};
-
-// Where an entry's link and the head of its bucket stand in it.
-const LINK: usize = 4;
-
-const HEAD: usize = 8;
-
-// As many buckets are used at most as legal positions have keys.
-const MOST_BUCKETS: usize = 67108864;
-
-// A hash is of 32 bits, by the factor of a multiplicative hash: 2 to the 32nd divided by the golden ratio.
-const HASH_LIMIT: u64 = 4294967296;
-
-const HASH_FACTOR: u64 = 2654435769;
 
 pub enum Inserted {
     Present,
@@ -30,64 +20,36 @@ pub enum Inserted {
     Full,
 }
 
-// The bucket of a key, by a multiplicative hash that is scaled, since a division would take longer than the rest.
-fn bucket(key: u32, buckets: usize) -> usize
-    requires { ⌜ 0 < buckets ⌝ }
-    ensures { λ r. ⌜ (r ≡ bucketOf buckets key) × (r < buckets) ⌝ }
+// An entry has five bytes beside its two words.
+const BITS_EACH: usize = 40;
+
+// A table of so many entries has room for a bit for each of `space` keys. The bits are rounded up to whole entries, since their
+// number in the entries may be more than a usize holds.
+fn bits_fit(space: u32, entries: usize) -> bool
+    ensures { λ r. ⌜ r ≡ bitsFit space entries ⌝ }
 {
-    let used = if buckets < MOST_BUCKETS {
-        buckets
-    } else {
-        MOST_BUCKETS
-    };
-    let hash = (key as u64) * HASH_FACTOR % HASH_LIMIT;
-    (hash * (used as u64) / HASH_LIMIT) as usize
+    ((space as usize) + (BITS_EACH - 1)) / BITS_EACH <= entries
 }
 
-// The chain from a head has the key.
-fn walk(table: &[u8], key: u32, head: u32) -> bool
-    requires { ⌜ Walkable (now table) head ⌝ }
-    ensures { λ r. ⌜ Walked (now (table .entry)) key head r ⌝ }
+// Inserts a key into the set of the first n keys, all of which are below `space`.
+pub fn insert(table: &mut [u8], n: usize, key: u32, space: u32) -> Inserted
+    requires { ⌜ Stored space n (now table) × (key < space) × (space ≤ keyLimit) ⌝ }
+    ensures { λ r. ⌜ Inserts space n key (now (table .entry)) r (now (table .exit)) ⌝ }
 {
-    let mut at = head as usize;
-    while 0 < at {
-        let i = at - 1;
-        if word_at(table, i * ENTRY) == key {
-            return true;
-        }
-        at = word_at(table, i * ENTRY + LINK) as usize;
+    if bits_fit(space, table.len() / ENTRY) {
+        return bits::insert(table, n, key);
     }
-    false
+    chains::insert(table, n, key)
 }
 
-// Writes entry n, before the chain of bucket b. Its head is read after the key is written: read before, it would share its four
-// bytes with the walk's look at it, which then took a byte at a time.
-fn put_entry(table: &mut [u8], n: usize, key: u32, b: usize)
-    requires { ⌜ (n < capacity (now table)) × (n ≤ keyLimit) × (b < capacity (now table)) ⌝ }
-    ensures { λ _. ⌜ now (table .exit) ≡ withEntry (now (table .entry)) n key b ⌝ }
+// Puts the first n keys, all of which are below `space`, in order.
+pub fn put_in_order(table: &mut [u8], n: usize, space: u32)
+    requires { ⌜ Stored space n (now table) × (space ≤ keyLimit) ⌝ }
+    ensures { λ _. ⌜ now (table .exit) ≡ withKeys (sorted (keys n (now (table .entry)))) (now (table .entry)) ⌝ }
 {
-    put_word(table, n * ENTRY, key);
-    let head = word_at(table, b * ENTRY + HEAD);
-    put_word(table, n * ENTRY + LINK, head);
-    put_word(table, b * ENTRY + HEAD, (n + 1) as u32);
-}
-
-// Inserts a key into the set in the first n entries.
-pub fn insert(table: &mut [u8], n: usize, key: u32) -> Inserted
-    requires { ⌜ Stored n (now table) × (key < keyLimit) ⌝ }
-    ensures { λ r. ⌜ Inserts n key (now (table .entry)) r (now (table .exit)) ⌝ }
-{
-    let entries = table.len() / ENTRY;
-    if entries == 0 {
-        return Inserted::Full;
+    if bits_fit(space, table.len() / ENTRY) {
+        bits::collect(table, space);
+        return;
     }
-    let b = bucket(key, entries);
-    if walk(table, key, word_at(table, b * ENTRY + HEAD)) {
-        return Inserted::Present;
-    }
-    if n < entries {
-        put_entry(table, n, key, b);
-        return Inserted::Added;
-    }
-    Inserted::Full
+    table_sorting::sort_keys(table, n);
 }

@@ -13,7 +13,7 @@ use Rattle.key_set_laws.specs.Growth.{Grows, Completes, Overflows, Among
 
 -- ── Step by step ──
 
-pub grows-none : {Wanted : ℕ → Type 0} {n : ℕ} {table : List ℕ} → Stored n table → Grows Wanted n table n table
+pub grows-none : {space : ℕ} {Wanted : ℕ → Type 0} {n : ℕ} {table : List ℕ} → Stored space n table → Grows space Wanted n table n table
 grows-none s =
     record {
       stored = s;
@@ -23,12 +23,12 @@ grows-none s =
       sound = λ i a b. absurd (omega arith);
     }
 
-pub holds-kept : {Wanted : ℕ → Type 0} {n m : ℕ} {a b : List ℕ} → Grows Wanted n a m b → {k : ℕ} → Holds n a k → Holds m b k
+pub holds-kept : {space : ℕ} {Wanted : ℕ → Type 0} {n m : ℕ} {a b : List ℕ} → Grows space Wanted n a m b → {k : ℕ} → Holds n a k → Holds m b k
 holds-kept g h = (h .0, omega (arith, h .1, g .more), g .kept (h .0) (h .1) ∙ h .2)
 
-grows-then : {P Q R : ℕ → Type 0} {n m l : ℕ} {a b c : List ℕ} → ((k : ℕ) → P k → R k) → ((k : ℕ) → Q k → R k)
-    → Grows P n a m b → Grows Q m b l c → Grows R n a l c
-grows-then {P} {Q} {R} {n} {m} {l} {a} {b} {c} p q f g =
+grows-then : {space : ℕ} {P Q R : ℕ → Type 0} {n m l : ℕ} {a b c : List ℕ} → ((k : ℕ) → P k → R k) → ((k : ℕ) → Q k → R k)
+    → Grows space P n a m b → Grows space Q m b l c → Grows space R n a l c
+grows-then {P = P} {Q} {R} {n} {m} {l} {a} {b} {c} p q f g =
     record {
       stored = g .stored;
       long = g .long ∙ f .long;
@@ -42,7 +42,7 @@ grows-then {P} {Q} {R} {n} {m} {l} {a} {b} {c} p q f g =
     step i x y (no h) = q (keyAt c i) (g .sound i (omega arith) y)
 
 -- what holds of all keys and of all that are wanted holds of all keys afterwards
-pub grown-all : (Good : ℕ → Type 0) {Wanted : ℕ → Type 0} {n m : ℕ} {a b : List ℕ} → Grows Wanted n a m b
+pub grown-all : (Good : ℕ → Type 0) {space : ℕ} {Wanted : ℕ → Type 0} {n m : ℕ} {a b : List ℕ} → Grows space Wanted n a m b
     → ((i : ℕ) → i < n → Good (keyAt a i))
     → ((k : ℕ) → Wanted k → Good k)
     → (i : ℕ)
@@ -55,12 +55,12 @@ grown-all Good {n = n} {b = b} g old wanted i l = step (decLt i n)
     step (no h) = wanted (keyAt b i) (g .sound i (omega arith) l)
 
 -- what is wanted may be said in another way
-pub completes-as : {P Q : ℕ → Type 0} {n m : ℕ} {a b : List ℕ} → ((k : ℕ) → P k → Q k) → ((k : ℕ) → Q k → P k)
-    → Completes P n a m b → Completes Q n a m b
+pub completes-as : {space : ℕ} {P Q : ℕ → Type 0} {n m : ℕ} {a b : List ℕ} → ((k : ℕ) → P k → Q k) → ((k : ℕ) → Q k → P k)
+    → Completes space P n a m b → Completes space Q n a m b
 completes-as p q c =
     record { grows = grows-then p p (c .grows) (grows-none (c .grows .stored)); complete = λ k w. c .complete k (q k w) }
 
-pub overflows-as : {P Q : ℕ → Type 0} {n : ℕ} {a b : List ℕ} → ((k : ℕ) → P k → Q k) → Overflows P n a b → Overflows Q n a b
+pub overflows-as : {space : ℕ} {P Q : ℕ → Type 0} {n : ℕ} {a b : List ℕ} → ((k : ℕ) → P k → Q k) → Overflows space P n a b → Overflows space Q n a b
 overflows-as p o =
     record {
       grows = grows-then p p (o .grows) (grows-none (o .grows .stored));
@@ -70,32 +70,32 @@ overflows-as p o =
     }
 
 -- what is wanted at first, and then
-pub completes-then : {P Q R : ℕ → Type 0} {n m l : ℕ} {a b c : List ℕ} → ((k : ℕ) → P k → R k) → ((k : ℕ) → Q k → R k)
+pub completes-then : {space : ℕ} {P Q R : ℕ → Type 0} {n m l : ℕ} {a b c : List ℕ} → ((k : ℕ) → P k → R k) → ((k : ℕ) → Q k → R k)
     → ((k : ℕ) → R k → P k ⊎ Q k)
-    → Completes P n a m b
-    → Completes Q m b l c
-    → Completes R n a l c
+    → Completes space P n a m b
+    → Completes space Q m b l c
+    → Completes space R n a l c
 completes-then p q either f g =
     record {
       grows = grows-then p q (f .grows) (g .grows);
       complete = λ k w. ⊎-elim (λ x. holds-kept (g .grows) (f .complete k x)) (g .complete k) (either k w);
     }
 
-pub overflows-then : {P Q R : ℕ → Type 0} {n m : ℕ} {a b c : List ℕ} → ((k : ℕ) → P k → R k) → ((k : ℕ) → Q k → R k)
-    → Completes P n a m b → Overflows Q m b c → Overflows R n a c
+pub overflows-then : {space : ℕ} {P Q R : ℕ → Type 0} {n m : ℕ} {a b c : List ℕ} → ((k : ℕ) → P k → R k) → ((k : ℕ) → Q k → R k)
+    → Completes space P n a m b → Overflows space Q m b c → Overflows space R n a c
 unfolding capacity
-overflows-then {Q = Q} {m = m} {a} {b} {c} p q f o =
+overflows-then {space = space} {Q = Q} {m = m} {a} {b} {c} p q f o =
     let same : capacity b ≡ capacity a = ap (λ n. n / entryWidth) (f .grows .long) in
     record {
-      grows = grows-then p q (f .grows) (subst (λ x. Grows Q m b x c) same (o .grows));
+      grows = grows-then p q (f .grows) (subst (λ x. Grows space Q m b x c) same (o .grows));
       key = o .key;
       wanted = q (o .key) (o .wanted);
       missing = subst (λ x. Holds x c (o .key) → ⊥) same (o .missing);
     }
 
 -- nothing is wanted
-pub completes-none : {Wanted : ℕ → Type 0} {n : ℕ} {table : List ℕ} → Stored n table → ((k : ℕ) → Wanted k → ⊥)
-    → Completes Wanted n table n table
+pub completes-none : {space : ℕ} {Wanted : ℕ → Type 0} {n : ℕ} {table : List ℕ} → Stored space n table → ((k : ℕ) → Wanted k → ⊥)
+    → Completes space Wanted n table n table
 completes-none s none = record { grows = grows-none s; complete = λ k w. absurd (none k w) }
 
 -- ── Place by place ──
@@ -107,7 +107,7 @@ module _ (first end : ℕ) (Wanted : ℕ → ℕ → Type 0) where
   among-last : (i j : ℕ) → first ≤ i → i < j → (k : ℕ) → Wanted i k → Among first j Wanted k
   among-last i j a l k w = (i, a, l, w)
 
-  pub passed-none : {n : ℕ} {table : List ℕ} → Stored n table → Passed first end Wanted first n table n table
+  pub passed-none : {space n : ℕ} {table : List ℕ} → Stored space n table → Passed space first end Wanted first n table n table
   passed-none s =
       record {
         from = omega arith;
@@ -115,8 +115,8 @@ module _ (first end : ℕ) (Wanted : ℕ → ℕ → Type 0) where
         visited = completes-none s (λ k w. omega (arith, w .1, w .2));
       }
 
-  pub passed-next : {n m l i : ℕ} {a b c : List ℕ} → i < end → Passed first end Wanted i n a m b → Completes (Wanted i) m b l c
-      → Passed first end Wanted (i + 1) n a l c
+  pub passed-next : {space n m l i : ℕ} {a b c : List ℕ} → i < end → Passed space first end Wanted i n a m b → Completes space (Wanted i) m b l c
+      → Passed space first end Wanted (i + 1) n a l c
   passed-next {i = i} h f g =
       record {
         from = omega (arith, f .from);
@@ -131,12 +131,12 @@ module _ (first end : ℕ) (Wanted : ℕ → ℕ → Type 0) where
       either k w (no d) = inl (w .0, w .1, omega (arith, w .2), w .3)
 
   -- a key wanted at this place has no room
-  pub passed-overflows : {n m i : ℕ} {a b c : List ℕ} → i < end → Passed first end Wanted i n a m b → Overflows (Wanted i) m b c
-      → Overflows (Among first end Wanted) n a c
+  pub passed-overflows : {space n m i : ℕ} {a b c : List ℕ} → i < end → Passed space first end Wanted i n a m b → Overflows space (Wanted i) m b c
+      → Overflows space (Among first end Wanted) n a c
   passed-overflows {i = i} h f o =
       overflows-then (among-more i end (omega arith)) (among-last i end (f .from) h) (f .visited) o
 
-  pub passed-all : {n m i : ℕ} {a b : List ℕ} → end ≤ i → Passed first end Wanted i n a m b
-      → Completes (Among first end Wanted) n a m b
+  pub passed-all : {space n m i : ℕ} {a b : List ℕ} → end ≤ i → Passed space first end Wanted i n a m b
+      → Completes space (Among first end Wanted) n a m b
   passed-all {i = i} h f =
       completes-as (λ k (j, a, b, w). (j, a, omega (arith, f .within (omega arith)), w)) (among-more end i h) (f .visited)

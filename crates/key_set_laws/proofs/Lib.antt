@@ -2,4 +2,9 @@
 pub mod HashChains
 pub mod Growth
 pub mod Stored
+pub mod Chains
+pub mod Bits
+pub mod Flags
+pub mod EmptySet
 pub mod Permuted
+pub mod InOrder

@@ -1,5 +1,4 @@
--- Laws of keys, of their column in the table, of sorting it and of laying it out.
-pub mod Keys
+-- Laws of the column of keys in the table, of sorting it and of laying it out.
 pub mod Sorted
 pub mod KeyColumn
 pub mod SortPasses

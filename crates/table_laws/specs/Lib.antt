@@ -1,5 +1,4 @@
 -- The lent table (01, "Verdict, table, certificate") while positions are found and sorted, and when they are laid out.
-pub mod Keys
 pub mod Sorted
 pub mod Table
 pub mod SortPasses

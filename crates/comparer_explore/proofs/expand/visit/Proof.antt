@@ -6,9 +6,9 @@ use Rattle.outcome.specs.Compare.{capacity}
 use Rattle.comparer_explore.proofs.expand.visit.Statement.{statement}
 use Rattle.comparer_explore.proofs.expand.visit.Tie as tie
 
-add-t8 : tie.Need-add-t8
+add-t9 : tie.Need-add-t9
 unfolding capacity
-add-t8 c =
+add-t9 c =
     let inserted = c .before .before .before .before in
     omega (arith, inserted .before .before .before .pre .0 .room)
 
@@ -32,7 +32,7 @@ visit-spec =
     (λ c κs. search needs)
     (λ c. search needs)
     (λ c. search needs)
-    add-t8
+    add-t9
     (λ c. search needs)
     (λ c. search needs)
     returns

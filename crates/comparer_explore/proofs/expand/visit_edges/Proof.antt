@@ -1,13 +1,12 @@
 -- `comparer_explore::expand::visit_edges` meets its contract. The loop's invariant: the keys wanted of the right edges passed are
 -- held. Assumes nothing.
 use Prim.Native.Nat.{ℕ, _-_}
-use mathlib.Core.Path.{refl, sym, _∙_}
+use mathlib.Core.Path.{_≡_, refl, sym, _∙_}
 use mathlib.Core.Logic.{⊎-elim}
-use mathlib.Core.Bool.{Bool}
 use mathlib.Core.List.{List}
 use native.Mathlib.Omega.{arith}
+use lib.ListN.{length}
 use borrow.Author.Needs.{needs}
-use Rattle.fra.specs.declared.Position.{Position}
 use Rattle.fra.specs.declared.Side.the-variants.{Right}
 use Rattle.fra_laws.proofs.Tests.{not-both}
 use Rattle.game_index.specs.Reading.{modelIn}
@@ -16,33 +15,48 @@ use Rattle.game_index.specs.declared.Transition.{Transition}
 use Rattle.key_set_laws.specs.Growth.{Passed}
 use Rattle.comparer_explore_laws.specs.EdgeKeys.{PairKey}
 use Rattle.key_set_laws.proofs.Growth.{completes-none, passed-none, passed-next, passed-overflows, passed-all}
+use Rattle.comparer_explore.specs.declared.expand.Source.{Source}
 use Rattle.comparer_explore.proofs.expand.visit_edges.Statement.{statement}
 use Rattle.comparer_explore.proofs.expand.visit_edges.Tie as tie
 
 -- what is wanted of a right edge
-abbrev wanted : Bool → Position → Transition → List ℕ → ℕ → ℕ → Type 0
-wanted room p left index k = PairKey room p left (transitionOf (modelIn index Right) k)
+abbrev wanted : Source → Transition → List ℕ → ℕ → ℕ → Type 0
+wanted s left index k = PairKey (s .radix) (s .room) (s .position) left (transitionOf (modelIn index Right) k)
 
 abbrev Inv-loop : tie.InvT-loop
-Inv-loop table₀ n p room left index half partners kind end m₀ k₀ table m k =
-    Passed k₀ end (wanted room p left index) k n table₀ m table
+Inv-loop table₀ n source left index half partners kind end m₀ k₀ table m k =
+    Passed (source .keys) k₀ end (wanted source left index) k n table₀ m table
 
 abbrev μ-loop : tie.MeasureT-loop
-μ-loop table₀ n p room left index half partners kind end m₀ k₀ table m k = end - k
+μ-loop table₀ n source left index half partners kind end m₀ k₀ table m k = end - k
 
 loop-holds : tie.Need-loop-holds Inv-loop μ-loop
 loop-holds c =
-    let start = c .before .before .before in
+    let start = c .before .before .before .before in
     let a = start .args in
-    passed-none (a .edges .first) (a .edges .end) (wanted (a .room) (a .p) (a .left) (a .index .now)) (start .pre .0)
+    passed-none (a .edges .first) (a .edges .end) (wanted (a .source) (a .left) (a .index .now)) (start .pre .0 .0)
+
+six : (c : tie.Start Inv-loop μ-loop) → length (c .args .source .position .partners) ≡ 6
+six c = search needs
+
+slice-aggregate-joint : tie.Need-slice-aggregate-joint Inv-loop μ-loop
+slice-aggregate-joint c = sym (six (c .before .before .before .before .before .before .before .before))
+
+joint-requires : tie.Need-joint-requires Inv-loop μ-loop
+joint-requires c κs = six (c .before .before .before .before .before .before .before .before)
 
 visit-pair-requires : tie.Need-visit-pair-requires Inv-loop μ-loop
 visit-pair-requires c κs =
     let tested = c .before .before in
-    let at-loop = tested .before .before .before .before in
+    let read = tested .before .before in
+    let turn = read .before in
+    let at-loop = turn .before in
     let halved = at-loop .before .before in
-    let joined = sym (tested .joint .ensures (halved .before .before .args .p) refl) ∙ c .before .if1 .taken in
-    (at-loop .loop .inv .visited .grows .stored, (halved .left-half .ensures, joined))
+    let start = halved .before .before .before in
+    let joined = sym (tested .joint .ensures (start .args .source .position) refl) ∙ c .before .if1 .taken in
+    let inv = at-loop .loop .inv in
+    let fits = start .pre .1 .1 (at-loop .loop .k) (inv .from) (turn .loop-test .taken) in
+    ((inv .visited .grows .stored, start .pre .0 .1), ((halved .left-half .ensures, joined), rw (read .transition-at .ensures) fits))
 
 same-length : tie.Need-same-length Inv-loop μ-loop
 same-length c =
@@ -55,15 +69,15 @@ returns c =
     let call = c .before .before .before .before in
     let read = call .before .before .before .before .before in
     let turn = read .before in
-    let a = turn .before .before .before .before .before .args in
-    passed-overflows (a .edges .first) (a .edges .end) (wanted (a .room) (a .p) (a .left) (a .index .now)) (turn .loop-test .taken)
+    let a = turn .before .before .before .before .before .before .args in
+    passed-overflows (a .edges .first) (a .edges .end) (wanted (a .source) (a .left) (a .index .now)) (turn .loop-test .taken)
     (turn .before .loop .inv)
     (rw (c .enum-told .given .1, read .transition-at .ensures) at (call .visit-pair .ensures))
 
 add-k : tie.Need-add-k Inv-loop μ-loop
 add-k c =
-    let start = c .before .before .before .before .before .before .before .before .before in
-    omega (arith, start .good .1 .1 .1 .1 .1 .1 .0)
+    let start = c .before .before .before .before .before .before .before .before .before .before in
+    omega (arith, start .good .1 .1 .1 .1 .1 .0)
 
 loop-less : tie.Need-loop-less Inv-loop μ-loop
 loop-less c = omega arith
@@ -74,11 +88,11 @@ loop-again c =
     let read = tested .before .before in
     let turn = read .before in
     let inv = turn .before .loop .inv in
-    let a = turn .before .before .before .before .before .args in
-    passed-next (a .edges .first) (a .edges .end) (wanted (a .room) (a .p) (a .left) (a .index .now)) (turn .loop-test .taken) inv
+    let a = turn .before .before .before .before .before .before .args in
+    passed-next (a .edges .first) (a .edges .end) (wanted (a .source) (a .left) (a .index .now)) (turn .loop-test .taken) inv
     (⊎-elim (λ w. rw (w .8, w .9) (rw (w .6 .given .1, read .transition-at .ensures) at (w .2 .ensures)))
     (λ w.
-    let apart = rw (read .transition-at .ensures) at (sym (tested .joint .ensures (a .p) refl) ∙ w .0 .left) in
+    let apart = rw (read .transition-at .ensures) at (sym (tested .joint .ensures (a .source .position) refl) ∙ w .0 .left) in
     rw (w .1, w .2) (completes-none (inv .visited .grows .stored) (λ k v. not-both _ (v .0) apart)))
     (c .if1 .came))
 
@@ -87,8 +101,8 @@ same-length-2 c = c .before .loop .inv .visited .grows .long
 
 returns-2 : tie.Need-returns-2 Inv-loop μ-loop
 returns-2 c =
-    let a = c .before .before .before .before .before .args in
-    passed-all (a .edges .first) (a .edges .end) (wanted (a .room) (a .p) (a .left) (a .index .now)) (c .loop-test .left)
+    let a = c .before .before .before .before .before .before .args in
+    passed-all (a .edges .first) (a .edges .end) (wanted (a .source) (a .left) (a .index .now)) (c .loop-test .left)
     (c .before .loop .inv)
 
 pub visit-edges-spec : {M : Type 1} → statement M
@@ -100,8 +114,8 @@ visit-edges-spec =
     (λ c κs. search needs)
     loop-holds
     (λ c κs. search needs)
-    (λ c. search needs)
-    (λ c κs. search needs)
+    slice-aggregate-joint
+    joint-requires
     visit-pair-requires
     (λ c. search needs)
     (λ c. search needs)

@@ -1,52 +1,80 @@
 -- `comparer_explore::expand::visit_pair` meets its contract: the keys of the positions that the pair leads to, or no key, are
 -- wanted. Assumes nothing.
+use Prim.Native.Nat.{ℕ}
 use mathlib.Core.Path.{_≡_, sym, _∙_, ap}
 use mathlib.Core.Logic.{inl, inr, ⊎-elim}
-use mathlib.Core.Bool.{true, not, _&&_}
+use mathlib.Core.Bool.{Bool, not, _&&_}
 use lib.Dec.{eqb}
 use denote.Ref.{now}
 use borrow.Author.Needs.{needs}
-use Rattle.fra.specs.declared.Side.the-variants.{Left}
-use Rattle.fra_laws.specs.Joint.{compatible}
+use Rattle.fra.specs.Lists.{_∈_}
+use Rattle.fra_laws.specs.Joint.{sizesAfter}
+use Rattle.game_moves.specs.AfterRound.{movedTo}
 use Rattle.game_moves.specs.HistorySizes.{firstSize}
+use Rattle.table_keys.specs.Keys.{keyOf, Fits}
 use Rattle.key_set_laws.specs.Growth.{Completes}
 use Rattle.key_set_laws.proofs.Growth.{completes-as, overflows-as}
-use Rattle.comparer_explore_laws.proofs.PairKeys.{keyAfter, seenToo, first-key, seen-key, either-key, first-key-alone}
-use Rattle.table_laws.specs.Keys.{keyOf}
+use Rattle.comparer_explore_laws.proofs.PairKeys.{keyAfter, seenToo, first-size, seen-size, first-key, seen-key}
+use Rattle.comparer_explore_laws.proofs.PairKeys.{either-key, first-key-alone}
 use Rattle.comparer_explore.specs.ExploreAnswers.{Visited}
+use Rattle.comparer_explore.specs.HalfRounds.{joinedTo}
+use Rattle.comparer_explore.specs.declared.expand.Source.{Source}
 use Rattle.comparer_explore.proofs.HalfRounds.{both-halves}
-use Rattle.comparer_explore.proofs.Visited.{visited-as, visited-then}
+use Rattle.comparer_explore.proofs.Sources.{keyed-few, keyed-below}
+use Rattle.comparer_explore.proofs.Visited.{visited-as, visited-then, visited-all, visited-full}
 use Rattle.comparer_explore.proofs.expand.visit_pair.Statement.{statement}
 use Rattle.comparer_explore.proofs.expand.visit_pair.Tie as tie
 
+-- the positions after the round, as the two halves make them, fit a key
+module _ (start : tie.Start) where
+  abbrev s : Source
+  s = start .args .source
+
+  halves : (size : ℕ) → joinedTo (start .args .half) size (start .args .left .target .state) (start .args .right .target)
+      ≡ movedTo (s .position) size (start .args .left .target) (start .args .right .target)
+  halves size =
+      both-halves (s .position) (start .args .half) size (start .args .left .target) (start .args .right .target) (start .pre .1 .0 .0)
+
+  half-fits : (size : ℕ) → size ∈ sizesAfter 6 (s .room) (s .position .history) (start .args .left .kind) (start .args .right .kind)
+      → Fits (s .radix) (joinedTo (start .args .half) size (start .args .left .target .state) (start .args .right .target))
+  half-fits size m = rw (halves size) (start .pre .1 .1 (start .pre .1 .0 .1) size m)
+
+  first-fits : (size : ℕ) → size ≡ firstSize 6 (s .position .history) (start .args .left .kind) (start .args .right .kind)
+      → Fits (s .radix) (joinedTo (start .args .half) size (start .args .left .target .state) (start .args .right .target))
+  first-fits size e = half-fits size (rw e (first-size (s .radix) (s .room) (s .position) (start .args .left) (start .args .right)))
+
+key-after-requires : tie.Need-key-after-requires
+key-after-requires c κs =
+    let start = c .before .before .before .before .before .before in
+    (start .pre .0 .1 .sized, first-fits start (c .size-after .result) (c .size-after .ensures))
+
 visit-requires : tie.Need-visit-requires
 visit-requires c κs =
-    let start = c .before .before .before .before .before .before in
-    (start .pre .0, c .key-after .ensures .1)
-
--- the two edges can take one number
-joint : (c : tie.After-visit)
-    → let a = c .before .before .before .before .before .before .before .args in
-    compatible (a .p) Left (a .left .kind) (a .right .kind) ≡ true
-joint c = c .before .before .before .before .before .before .before .pre .1 .1
+    let made = c .before in
+    let start = made .before .before .before .before .before .before .before in
+    let keyed = start .pre .0 .1 in
+    let fits = first-fits start (made .before .size-after .result) (made .before .size-after .ensures) in
+    (start .pre .0 .0, keyed-below keyed fits (made .key-after .ensures), keyed-few keyed)
 
 -- the first visit is of the key of the first size
-first : (c : tie.After-visit)
-    → let a = c .before .before .before .before .before .before .before .args in
-    let size = firstSize 6 (a .p .history) (a .left .kind) (a .right .kind) in
-    Visited (λ k. k ≡ keyAfter (a .room) (a .p) (a .left) (a .right) size) (a .n) (now (a .table)) (c .visit .result)
-    (c .visit .last .0)
-first c =
-    let key = c .before in
-    let a = key .before .before .before .before .before .before .args in
-    let start = key .before .before .before .before .before .before in
-    let halves = both-halves (a .p) (a .half) (key .before .before .size-after .result) (a .left .target) (a .right .target) (start .pre .1 .0) in
-    let e =
-    key .key-after .ensures .0
-    ∙ ap keyOf halves
-    ∙ ap (keyAfter (a .room) (a .p) (a .left) (a .right)) (key .before .before .size-after .ensures) in
-    visited-as (a .n) (now (a .table)) (c .visit .result) (c .visit .last .0) (λ k d. d ∙ e) (λ k d. d ∙ sym e)
-    (c .visit .ensures)
+module _ (c : tie.After-visit) where
+  abbrev begun : tie.Start
+  begun = c .before .before .before .before .before .before .before .before .before
+
+  abbrev a : Source
+  a = begun .args .source
+
+  first : let size = firstSize 6 (a .position .history) (begun .args .left .kind) (begun .args .right .kind) in
+      Visited (a .keys) (λ k. k ≡ keyAfter (a .radix) (a .room) (a .position) (begun .args .left) (begun .args .right) size)
+      (begun .args .n) (now (begun .args .table)) (c .visit .result) (c .visit .last .0)
+  first =
+      let made = c .before .before in
+      let e =
+      made .key-after .ensures
+      ∙ ap (keyOf (a .radix)) (halves begun (made .before .size-after .result))
+      ∙ ap (keyAfter (a .radix) (a .room) (a .position) (begun .args .left) (begun .args .right)) (made .before .size-after .ensures) in
+      visited-as (a .keys) (begun .args .n) (now (begun .args .table)) (c .visit .result) (c .visit .last .0)
+      (λ k d. d ∙ e) (λ k d. d ∙ sym e) (c .visit .ensures)
 
 same-length : tie.Need-same-length
 same-length c = c .before .before .before .before .visit .kept .0
@@ -54,80 +82,111 @@ same-length c = c .before .before .before .before .visit .kept .0
 returns : tie.Need-returns
 returns c =
     let call = c .before .before .before .before in
-    let a = call .before .before .before .before .before .before .before .args in
-    overflows-as (first-key (a .room) (a .p) (a .left) (a .right) (joint call)) (rw (c .enum-told .given .1) at (first call))
+    let s = a call in
+    let args = begun call .args in
+    overflows-as (first-key (s .radix) (s .room) (s .position) (args .left) (args .right) (begun call .pre .1 .0 .1))
+    (visited-full (s .keys) _ (args .n) (now (args .table)) (call .visit .result) (call .visit .last .0) (first call) (c .enum-told .given .1))
 
 -- it found room
-done : (c : tie.After-also-seen)
-    → let call = c .before .before .before .before .before .before .before in
-    let a = call .before .before .before .before .before .before .before .args in
-    let size = firstSize 6 (a .p .history) (a .left .kind) (a .right .kind) in
-    Completes (λ k. k ≡ keyAfter (a .room) (a .p) (a .left) (a .right) size) (a .n) (now (a .table))
-    (c .before .before .before .m .given .0 .0) (call .visit .last .0)
-done c =
-    let found = c .before .before .before in
-    rw (found .m .given .1) at (first (found .before .before .before .before))
+module _ (c : tie.After-also-seen) where
+  abbrev told : tie.After-known-told
+  told = c .before .before .before
 
--- whether a number seen before is tried
-tried : (c : tie.After-also-seen)
-    → let call = c .before .before .before .before .before .before .before in
-    let sized = call .before .before .before in
-    let a = sized .before .before .before .before .args in
-    (a .room && not (eqb (sized .size-after .result) (a .p .history)) && c .also-seen .result)
-    ≡ seenToo (a .room) (a .p) (a .left) (a .right)
-tried c =
-    let sized = c .before .before .before .before .before .before .before .before .before .before in
-    rw (sized .size-after .ensures, c .also-seen .ensures)
+  abbrev call : tie.After-visit
+  call = told .before .before .before .before .before
+
+  done : let s = a call in
+      let args = begun call .args in
+      let size = firstSize 6 (s .position .history) (args .left .kind) (args .right .kind) in
+      Completes (s .keys) (λ k. k ≡ keyAfter (s .radix) (s .room) (s .position) (args .left) (args .right) size) (args .n)
+      (now (args .table)) (told .before .m .given .0 .0) (call .visit .last .0)
+  done =
+      let args = begun call .args in
+      visited-all (a call .keys) _ (args .n) (now (args .table)) (call .visit .result) (call .visit .last .0) (first call)
+      (told .before .m .given .0 .0) (told .before .m .given .1)
+
+  -- whether a number seen before is tried
+  tried : let s = a call in
+      let args = begun call .args in
+      (s .room && not (eqb (call .before .before .before .size-after .result) (s .position .history)) && c .also-seen .result)
+      ≡ seenToo (s .radix) (s .room) (s .position) (args .left) (args .right)
+  tried =
+      let s = a call in
+      let args = begun call .args in
+      let size = firstSize 6 (s .position .history) (args .left .kind) (args .right .kind) in
+      ap (λ (n : ℕ). s .room && not (eqb n (s .position .history)) && c .also-seen .result) (call .before .before .before .size-after .ensures)
+      ∙ ap (λ (b : Bool). s .room && not (eqb size (s .position .history)) && b) (c .also-seen .ensures)
+
+key-after-requires-2 : tie.Need-key-after-requires-2
+key-after-requires-2 c κs =
+    let asked = c .before in
+    let start = begun (call asked) in
+    let s = a (call asked) in
+    let seen = sym (tried asked) ∙ c .if1 .taken in
+    (start .pre .0 .1 .sized,
+    half-fits start (s .position .history) (seen-size (s .radix) (s .room) (s .position) (start .args .left) (start .args .right) seen))
 
 visit-requires-2 : tie.Need-visit-requires-2
-visit-requires-2 c κs = (done (c .before .before .before) .grows .stored, c .key-after2 .ensures .1)
+visit-requires-2 c κs =
+    let made = c .before in
+    let asked = made .before .before in
+    let start = begun (call asked) in
+    let s = a (call asked) in
+    let keyed = start .pre .0 .1 in
+    let seen = sym (tried asked) ∙ made .before .if1 .taken in
+    let fits =
+    half-fits start (s .position .history) (seen-size (s .radix) (s .room) (s .position) (start .args .left) (start .args .right) seen) in
+    (done asked .grows .stored, keyed-below keyed fits (made .key-after2 .ensures), keyed-few keyed)
 
 same-length-2 : tie.Need-same-length-2
 same-length-2 c =
     let again = c .before .before in
-    let call = again .before .before .before .before .before .before .before .before .before .before .before in
-    again .visit2 .kept .0 ∙ call .visit .kept .0
+    let asked = again .before .before .before .before in
+    again .visit2 .kept .0 ∙ call asked .visit .kept .0
 
 returns-2 : tie.Need-returns-2
 returns-2 c =
     let again = c .before .before in
-    let test = again .before .before .before in
-    let call = test .before .before .before .before .before .before .before .before in
-    let a = call .before .before .before .before .before .before .before .args in
-    let start = call .before .before .before .before .before .before .before in
-    let halves = both-halves (a .p) (a .half) (a .p .history) (a .left .target) (a .right .target) (start .pre .1 .0) in
-    let e = again .before .key-after2 .ensures .0 ∙ ap keyOf halves in
-    let seen = sym (tried (test .before)) ∙ test .if1 .taken in
-    visited-then (again .visit2 .result) (again .visit2 .last .0)
-    (first-key (a .room) (a .p) (a .left) (a .right) (joint call))
-    (λ k d. seen-key (a .room) (a .p) (a .left) (a .right) (joint call) seen k (d ∙ e))
-    (λ k w. ⊎-elim inl (λ d. inr (d ∙ sym e)) (either-key (a .room) (a .p) (a .left) (a .right) k w))
-    (done (test .before)) (again .visit2 .ensures)
+    let made = again .before .before in
+    let test = made .before in
+    let asked = test .before in
+    let start = begun (call asked) in
+    let s = a (call asked) in
+    let left = start .args .left in
+    let right = start .args .right in
+    let e = made .key-after2 .ensures ∙ ap (keyOf (s .radix)) (halves start (s .position .history)) in
+    let seen = sym (tried asked) ∙ test .if1 .taken in
+    visited-then (s .keys) (again .visit2 .result) (again .visit2 .last .0)
+    (first-key (s .radix) (s .room) (s .position) left right (start .pre .1 .0 .1))
+    (λ k d. seen-key (s .radix) (s .room) (s .position) left right (start .pre .1 .0 .1) seen k (d ∙ e))
+    (λ k w. ⊎-elim inl (λ d. inr (d ∙ sym e)) (either-key (s .radix) (s .room) (s .position) left right k w))
+    (done asked) (again .visit2 .ensures)
 
 same-length-3 : tie.Need-same-length-3
-same-length-3 c = c .before .before .before .before .before .before .before .before .visit .kept .0
+same-length-3 c = call (c .before) .visit .kept .0
 
 returns-3 : tie.Need-returns-3
 returns-3 c =
-    let call = c .before .before .before .before .before .before .before .before in
-    let a = call .before .before .before .before .before .before .before .args in
-    let alone = sym (tried (c .before)) ∙ c .if1 .left in
-    completes-as (first-key (a .room) (a .p) (a .left) (a .right) (joint call))
-    (first-key-alone (a .room) (a .p) (a .left) (a .right) alone) (done (c .before))
+    let asked = c .before in
+    let start = begun (call asked) in
+    let s = a (call asked) in
+    let alone = sym (tried asked) ∙ c .if1 .left in
+    completes-as (first-key (s .radix) (s .room) (s .position) (start .args .left) (start .args .right) (start .pre .1 .0 .1))
+    (first-key-alone (s .radix) (s .room) (s .position) (start .args .left) (start .args .right) alone) (done asked)
 
 pub visit-pair-spec : {M : Type 1} → statement M
 visit-pair-spec =
     tie.close
     (tie.spec
     (λ c κs. search needs)
-    (λ c κs. search needs)
+    key-after-requires
     visit-requires
     (λ c. search needs)
     (λ c. search needs)
     same-length
     returns
     (λ c κs. search needs)
-    (λ c κs. search needs)
+    key-after-requires-2
     visit-requires-2
     same-length-2
     returns-2

@@ -1,13 +1,13 @@
--- `key_set::bucket` meets its contract: it is the definition. Assumes nothing.
+-- `key_set::chains::bucket` meets its contract: it is the definition. Assumes nothing.
 use Prim.Native.Nat.{_*_, _^_, _<_, min}
 use mathlib.Core.Path.{_≡_, _∙_}
 use mathlib.Core.Logic.{⊎-elim}
 use native.Mathlib.Omega.{arith}
 use borrow.Author.Needs.{needs}
 use Rattle.key_set_laws.specs.Stored.{mostBuckets, hashOf, bucketOf}
-use Rattle.key_set_laws.proofs.Stored.{hash-scaled, bucket-below}
-use Rattle.key_set.proofs.bucket.Statement.{statement}
-use Rattle.key_set.proofs.bucket.Tie as tie
+use Rattle.key_set_laws.proofs.Chains.{hash-scaled, bucket-below}
+use Rattle.key_set.proofs.chains.bucket.Statement.{statement}
+use Rattle.key_set.proofs.chains.bucket.Tie as tie
 
 -- how many buckets are used
 used-is : (c : tie.Joined1) → c .if1 .used ≡ min (c .before .args .buckets) mostBuckets

@@ -1,4 +1,4 @@
--- `key_set::walk` meets its contract. The loop's invariant: the link is at most the head, and an entry with the key
+-- `key_set::chains::walk` meets its contract. The loop's invariant: the link is at most the head, and an entry with the key
 -- that the walk from the head visits is visited from here on. The measure is the link, which falls. Assumes nothing.
 use Prim.Native.Nat.{_-_}
 use mathlib.Core.Path.{_≡_, sym, _∙_}
@@ -8,17 +8,19 @@ use Rattle.outcome.specs.Compare.{capacity}
 use Rattle.key_set_laws.specs.HashChains.{Walking}
 use Rattle.key_set_laws.specs.Stored.{entriesOf}
 use Rattle.key_set_laws.proofs.HashChains.{walking-begins, walking-goes-on, walking-ends}
-use Rattle.key_set.proofs.walk.Statement.{statement}
-use Rattle.key_set.proofs.walk.Tie as tie
+use Rattle.key_set.proofs.chains.walk.Statement.{statement}
+use Rattle.key_set.proofs.chains.walk.Tie as tie
 
 abbrev Inv-loop : tie.InvT-loop
-Inv-loop table key head at₀ at = Walking (entriesOf table) key head at
+Inv-loop table entries key head at₀ at = Walking (entriesOf entries table) key head at
 
 abbrev μ-loop : tie.MeasureT-loop
-μ-loop table key head at₀ at = at
+μ-loop table entries key head at₀ at = at
 
 loop-holds : tie.Need-loop-holds Inv-loop μ-loop
-loop-holds c = walking-begins (entriesOf (c .before .args .table .now)) (c .before .args .key) (c .before .args .head)
+loop-holds c =
+    let a = c .before .args in
+    walking-begins (entriesOf (a .entries) (a .table .now)) (a .key) (a .head)
 
 sub-i : tie.Need-sub-i Inv-loop μ-loop
 sub-i c = omega arith
@@ -39,6 +41,10 @@ returns c =
 mul-word-at-2 : tie.Need-mul-word-at-2 Inv-loop μ-loop
 unfolding capacity
 mul-word-at-2 c = omega arith
+
+mul-word-at-3 : tie.Need-mul-word-at-3 Inv-loop μ-loop
+unfolding capacity
+mul-word-at-3 c = omega arith
 
 add-word-at : tie.Need-add-word-at Inv-loop μ-loop
 unfolding capacity
@@ -79,6 +85,7 @@ walk-spec =
     word-at-requires
     returns
     mul-word-at-2
+    mul-word-at-3
     add-word-at
     word-at-requires-2
     (λ c. search needs)

@@ -13,7 +13,6 @@ use Rattle.fra.specs.Rules.{Rules}
 use Rattle.fra.specs.Reach.{reached, rounds}
 use Rattle.fra.specs.Valid.{Valid}
 use Rattle.fra.specs.declared.Task.{Task}
-use Rattle.fra.specs.declared.Side.the-variants.{Left, Right}
 use Rattle.fra_laws.proofs.Tests.{clash}
 use Rattle.task.specs.TaskFile.{readTask}
 use Rattle.task.specs.declared.Answer.the-variants.{Read, Refused as Unread}
@@ -38,7 +37,7 @@ use Rattle.comparer_explore.specs.ExploreAnswers.{exploredIn, Explores}
 use Rattle.comparer_explore.specs.declared.Explored.the-variants.{Count, TooMany}
 use Rattle.comparer_rank_laws.specs.EntryRows.{rows}
 use Rattle.fra_laws.proofs.LegalPositions.{mostPositions}
-use Rattle.comparer_rank_laws.proofs.FewPositions.{few-states, few-positions}
+use Rattle.comparer_rank_laws.proofs.FewPositions.{few-positions}
 use Rattle.comparer_rank.specs.RankPasses.{reachedIn, Begins}
 use Rattle.comparer_laws.proofs.Arranged.{ordered-below, arranged, entries-length}
 use Rattle.comparer_certify_laws.specs.Marking.{roundsFor}

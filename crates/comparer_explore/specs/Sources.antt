@@ -1,5 +1,4 @@
 -- A position that is expanded, with what its keys are sized by.
-use Prim.Native.Nat.{ℕ}
 use mathlib.Core.Path.{_≡_}
 use Rattle.fra.specs.Position.{hasRoom}
 use Rattle.fra.specs.declared.Position.{Position}

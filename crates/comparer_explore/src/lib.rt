@@ -1,7 +1,7 @@
 // Exploring in place (01, "Positions reached are the start and all that attacks and replies lead to"): the lent table is the set
 // of positions found, and the queue of those whose successors are still to be found.
-use game_index::layout::SIZE;
 use crate::expand::Source;
+use game_index::layout::SIZE;
 use listing::words::word_at;
 use outcome::layout::WORD;
 use table_keys::Radix;

@@ -1,12 +1,12 @@
 -- A bit that is 0 is set by adding its power of two: the sum is a byte, that bit is 1, and all others stay. Assumes nothing.
 use Prim.Native.Nat.{ℕ, suc, _+_, _*_, _/_, _%_, _-_, _^_, _≤_, _<_}
-use mathlib.Core.Path.{_≡_, refl, sym, _∙_, ap}
+use mathlib.Core.Path.{_≡_, sym, _∙_, ap}
 use mathlib.Core.List.{List}
 use native.Mathlib.Nat.{one-mul, add-mul, mul-comm, mul-assoc, add-mul-div-right, pow-suc, mul-le-mul-right, div-add-mod', mod-lt}
 use native.Mathlib.Numerals.{add-one}
 use native.Mathlib.Omega.{arith}
 use native.Mathlib.Decide.{ℕ-discrete, decLt}
-use lib.ListN.{length, getD, set}
+use lib.ListN.{length, getD}
 use lib.Seq.{getD-set-same, getD-set-other}
 use lib.Pow.{pow-pos, pow-add, shr-shr, shr-lt}
 use Rattle.outcome.specs.Bytes.{wordAt}

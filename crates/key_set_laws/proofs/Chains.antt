@@ -13,7 +13,6 @@ use lib.Seq.{length-sets}
 use Rattle.outcome.specs.Bytes.{wordAt}
 use Rattle.outcome.specs.Compare.{capacity}
 use Rattle.listing.specs.Widths.{wordWidth, entryWidth}
-use Rattle.listing.specs.Words.{putWord}
 use Rattle.listing.proofs.WordLaws.{read-word, read-other-word}
 use Rattle.table_laws.specs.Table.{keyAt}
 use Rattle.key_set_laws.specs.HashChains.{Chained, Adds}

@@ -1,6 +1,6 @@
 -- A set of keys that is known by bits: a key whose bit is set adds itself. Assumes nothing.
 use Prim.Native.Nat.{ℕ, suc, _+_, _*_, _/_, _%_, _^_, _<_}
-use mathlib.Core.Path.{_≡_, refl, sym, _∙_, ap, subst}
+use mathlib.Core.Path.{_≡_, sym, _∙_, ap}
 use mathlib.Core.Logic.{inl, inr}
 use mathlib.Core.Bool.{true, false, true≢false}
 use mathlib.Core.List.{List}
@@ -8,14 +8,14 @@ use native.Mathlib.Omega.{arith}
 use native.Mathlib.Decide.{ℕ-discrete}
 use lib.ListN.{length, length-set, getD}
 use lib.Seq.{length-sets}
-use lib.Dec.{leb, eqb}
+use lib.Dec.{eqb}
 use borrow.Author.Tests.{leb-true, eqb-true, eqb-false}
 use Rattle.outcome.specs.Bytes.{word}
 use Rattle.outcome.specs.Compare.{capacity}
-use Rattle.listing.specs.Widths.{wordWidth, entryWidth}
+use Rattle.listing.specs.Widths.{wordWidth}
 use Rattle.listing.proofs.WordLaws.{read-word, read-other-word, put-other}
 use Rattle.table_laws.specs.Table.{keyAt}
-use Rattle.key_set_laws.specs.Bits.{wordsEach, bitsEach, bitsFit, bitIn, bitByte, bitAt, withBit}
+use Rattle.key_set_laws.specs.Bits.{bitsEach, bitsFit, bitIn, bitByte, bitAt, withBit}
 use Rattle.key_set_laws.specs.Stored.{withKey, Holds, Flagged, Stored}
 use Rattle.key_set_laws.specs.Growth.{Completes}
 use Rattle.key_set_laws.proofs.Bits.{with-bit-word, with-bit-same, with-bit-other}

@@ -72,7 +72,7 @@ module _ {space n k : ℕ} {table new : List ℕ} (s : Stored space n table) (ro
     (missing : Holds n table k → ⊥) (small : k < space) (added : KeyAdded n k table new)
     (flagged : bitsFit space (capacity table) ≡ true → Flagged (capacity table) (suc n) new)
     (chained : bitsFit space (capacity table) ≡ false
-      → Chained (capacity table) (bucketOf (capacity table)) (suc n) (entriesOf (capacity table) new))
+    → Chained (capacity table) (bucketOf (capacity table)) (suc n) (entriesOf (capacity table) new))
   where
     same : capacity table ≡ capacity new
     unfolding capacity

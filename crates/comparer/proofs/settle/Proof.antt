@@ -1,7 +1,7 @@
 -- `comparer::settle` meets its contract: the keys found, in order and laid out, are ranked. Assumes nothing.
 use mathlib.Core.Path.{_≡_, sym, _∙_, ap, subst}
-use mathlib.Core.List.{List, _++_}
-use Prim.Native.Nat.{ℕ, _*_}
+use mathlib.Core.List.{_++_}
+use Prim.Native.Nat.{_*_}
 use native.Mathlib.Omega.{arith}
 use lib.ListN.{drop}
 use denote.Ref.{now}
@@ -35,9 +35,10 @@ put-in-order-requires : tie.Need-put-in-order-requires
 put-in-order-requires c κs =
     let made = c .before .before in
     let f = start made .pre .1 in
-    let count = c .key-count .ensures ∙ ap keyCount (radix-is made) in
-    (subst (λ k. Stored k (start made .args .n) (now (start made .args .table))) (sym count) (f .stored),
-    omega (arith, c .key-count .ensures, key-count-small (sized made)))
+    let count = c .key-count .ensures ∙ ap keyCount (radix-is made) in (
+      subst (λ k. Stored k (start made .args .n) (now (start made .args .table))) (sym count) (f .stored),
+      omega (arith, c .key-count .ensures, key-count-small (sized made)),
+    )
 
 lay-out-requires : tie.Need-lay-out-requires
 lay-out-requires c κs =
@@ -45,9 +46,11 @@ lay-out-requires c κs =
     let made = ordered .before .before .before in
     let begun = start made in
     let f = begun .pre .1 in
-    let below = in-order-below (begun .pre .0) f (ordered .put-in-order .ensures) in
-    (omega (arith, f .room, ordered .put-in-order .kept .0), sized made,
-    subst (λ x. KeysBelow (keyCount x) (begun .args .n) (ordered .put-in-order .last .0)) (sym (radix-is made)) below)
+    let below = in-order-below (begun .pre .0) f (ordered .put-in-order .ensures) in (
+      omega (arith, f .room, ordered .put-in-order .kept .0),
+      sized made,
+      subst (λ x. KeysBelow (keyCount x) (begun .args .n) (ordered .put-in-order .last .0)) (sym (radix-is made)) below,
+    )
 
 rank-requires : tie.Need-rank-requires
 rank-requires c κs =

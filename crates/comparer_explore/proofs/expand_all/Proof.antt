@@ -74,11 +74,16 @@ visit-successors-requires : tie.Need-visit-successors-requires Inv-loop μ-loop
 visit-successors-requires c κs =
     let asked = c .before in
     let at = turn asked .before .loop in
-    let given = start asked .pre .0 in
-    (subst (λ k. Stored k (at .found) (at .table)) (sym (count asked)) (at .inv .stored), (given .0, (
-      λ i. record { position = asked .before .position .result; room = asked .has-room .ensures i; radix = given .1 i; keys = count asked i },
-      subst (Expandable (t asked)) (sym (read asked)) (exploring-expandable (given .0) (at .inv) (turn asked .loop-test .taken)),
-    )))
+    let given = start asked .pre .0 in (
+      subst (λ k. Stored k (at .found) (at .table)) (sym (count asked)) (at .inv .stored),
+      (
+        given .0,
+        (
+          λ i. record { position = asked .before .position .result; room = asked .has-room .ensures i; radix = given .1 i; keys = count asked i },
+          subst (Expandable (t asked)) (sym (read asked)) (exploring-expandable (given .0) (at .inv) (turn asked .loop-test .taken)),
+        ),
+      ),
+    )
 
 same-length : tie.Need-same-length Inv-loop μ-loop
 same-length c =

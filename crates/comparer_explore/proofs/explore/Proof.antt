@@ -38,9 +38,10 @@ module _ (c : tie.After-start) where
 
 key-requires : tie.Need-key-requires
 key-requires c κs =
-    let index = begun c .pre in
-    (rw (of c .of .ensures) (radix-sized index),
-    subst (λ x. Fits x (c .start .result)) (sym (of c .of .ensures)) (subst (Fits (radixOf (t c))) (sym (start-is c)) (start-fits index)))
+    let index = begun c .pre in (
+      rw (of c .of .ensures) (radix-sized index),
+      subst (λ x. Fits x (c .start .result)) (sym (of c .of .ensures)) (subst (Fits (radixOf (t c))) (sym (start-is c)) (start-fits index)),
+    )
 
 key-count-requires : tie.Need-key-count-requires
 key-count-requires c κs = let first = c .before .before in rw (of first .of .ensures) (radix-sized (begun first .pre))

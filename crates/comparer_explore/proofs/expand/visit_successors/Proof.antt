@@ -73,9 +73,13 @@ visit-edges-requires c κs =
     let b = start .args .index .now in
     let others = c .before in
     let radix-is : s start .radix ≡ radixOf (taskIn b) = ap (λ (z : Source). z .radix) (start .pre .1 .1 .0) in
-    let room-is : s start .room ≡ hasRoom (taskIn b) (s start .position) = ap (λ (z : Source). z .room) (start .pre .1 .1 .0) in
-    ((inv .visited .grows .stored, keyed start), (start .pre .1 .0,
-    rw (others .tagged .ensures, others .before .transition-at .ensures, others .before .before .edge-at .ensures, radix-is, room-is) fits))
+    let room-is : s start .room ≡ hasRoom (taskIn b) (s start .position) = ap (λ (z : Source). z .room) (start .pre .1 .1 .0) in (
+      (inv .visited .grows .stored, keyed start),
+      (
+        start .pre .1 .0,
+        rw (others .tagged .ensures, others .before .transition-at .ensures, others .before .before .edge-at .ensures, radix-is, room-is) fits,
+      ),
+    )
 
 same-length : tie.Need-same-length Inv-loop μ-loop
 same-length c =

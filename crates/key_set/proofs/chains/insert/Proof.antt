@@ -36,9 +36,9 @@ returns-2 c =
     let start = hashed .before .before .before in
     let first = rw (read .before .head-place .ensures) at (read .word-at .ensures) in
     λ space s none small.
-        completes-held s
-        (walk-meets (now (start .args .table)) (start .pre .1 .0) (start .pre .0) (hashed .bucket .ensures .1) first
-        (walked .walk .result) (walked .walk .ensures) (c .if2 .taken))
+    completes-held s
+    (walk-meets (now (start .args .table)) (start .pre .1 .0) (start .pre .0) (hashed .bucket .ensures .1) first
+    (walked .walk .result) (walked .walk .ensures) (c .if2 .taken))
 
 -- the walk has not met the key
 missing : (c : tie.Else2) → let a = c .before .before .before .before .before .before .before .before .before .args in
@@ -63,9 +63,9 @@ returns-3 c =
     let start = hashed .before .before .before in
     let a = start .args in
     λ space s none small.
-        subst (Completes space (λ x. x ≡ a .key) (a .n) (now (a .table)) (suc (a .n))) (sym (put .put-entry .ensures))
-        (completes-chained s none small (missing tested) (put .before .before .if3 .taken) (hashed .bucket .ensures .0) (omega arith)
-        (omega (arith, start .pre .1 .1)))
+    subst (Completes space (λ x. x ≡ a .key) (a .n) (now (a .table)) (suc (a .n))) (sym (put .put-entry .ensures))
+    (completes-chained s none small (missing tested) (put .before .before .if3 .taken) (hashed .bucket .ensures .0) (omega arith)
+    (omega (arith, start .pre .1 .1)))
 
 returns-4 : tie.Need-returns-4
 unfolding capacity

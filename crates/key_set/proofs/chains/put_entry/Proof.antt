@@ -1,9 +1,7 @@
 -- `key_set::chains::put_entry` meets its contract: it writes three words, and the first leaves the heads. Assumes nothing.
 use native.Mathlib.Numerals.{add-one}
-use native.Mathlib.Omega.{arith}
 use denote.Ref.{now}
 use borrow.Author.Needs.{needs}
-use Rattle.outcome.specs.Compare.{capacity}
 use Rattle.key_set_laws.proofs.Chains.{head-kept}
 use Rattle.key_set.proofs.chains.put_entry.Statement.{statement}
 use Rattle.key_set.proofs.chains.put_entry.Tie as tie

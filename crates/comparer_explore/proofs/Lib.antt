@@ -3,3 +3,5 @@ mod Visited
 mod Explores
 pub mod HalfRounds
 mod Sources
+mod PartnerDigits
+mod EdgeSums

@@ -2,3 +2,4 @@
 pub mod ExploreAnswers
 pub mod HalfRounds
 pub mod Sources
+pub mod Sums

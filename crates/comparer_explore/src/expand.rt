@@ -1,5 +1,10 @@
 // The successors of a position, by pairs of a left and a right edge of one tag.
 use crate::Explored;
+use crate::sums::Rest;
+use crate::sums::Sums;
+use crate::sums::place_of;
+use crate::sums::rest_of;
+use crate::sums::sums_of;
 use fra::Model;
 use fra::Position;
 use fra::Side;
@@ -15,7 +20,7 @@ use table_keys::PARTNER_BASE;
 use table_keys::Radix;
 ghost use Prim.Native.Nat.{_≤_, _<_};
 ghost use mathlib.Core.Path.{_≡_};
-ghost use mathlib.Core.Bool.{true};
+ghost use mathlib.Core.Bool.{true, false};
 ghost use Rattle.fra.specs.declared.Side.the-variants.{Left};
 ghost use Rattle.fra_laws.specs.Joint.{compatible};
 ghost use Rattle.game_index.specs.Reading.{taskIn, rulesIn};
@@ -26,7 +31,8 @@ ghost use Rattle.comparer_explore_laws.specs.HalfRounds.{inSet};
 ghost use Rattle.comparer_explore_laws.specs.EdgeKeys.{PairKey, PairFits, RangeKey, RangeFits};
 ghost use Rattle.comparer_explore_laws.specs.Exploring.{SuccessorKey, Expandable};
 ghost use Rattle.comparer_explore.specs.ExploreAnswers.{Visited};
-ghost use Rattle.comparer_explore.specs.HalfRounds.{halfOf, joinedTo};
+ghost use Rattle.comparer_explore.specs.HalfRounds.{Halves, Undropped, HalfOf, joinedTo, Summed, RangeSummed};
+ghost use Rattle.comparer_explore.specs.Sums.{SumsOf};
 ghost use Rattle.comparer_explore.specs.Sources.{sourceOf, Keyed};
 
 // A position that is expanded: whether the history has room for a number seen before, what its keys are sized by, and how many keys
@@ -51,10 +57,13 @@ pub fn visit(table: &mut [u8], n: usize, key: u32, keys: u32) -> Explored
 }
 
 // What a left edge leaves of the matching, whichever right edge takes the same number: the partners of the registers in its to
-// set, and the register that holds the number taken, or 0 where that set has it not. It is made once for each left edge.
+// set, and the register that holds the number taken, or 0 where that set has it not. Where it drops no register, also the numbers
+// that a key is made of. It is made once for each left edge.
 struct Half {
     partners: [u8; 6],
     register: u8,
+    keeps: bool,
+    rest: Rest,
 }
 
 // The register if it is in the set, else 0.
@@ -64,10 +73,20 @@ fn in_set(set: u8, i: u8) -> u8
     (has(set, i) as u8) * i
 }
 
-fn left_half(p: Position, left: Target) -> Half
-    ensures { λ r. ⌜ r ≡ halfOf p left ⌝ }
+fn left_half(radix: Radix, p: Position, sums: Sums, left: Target, drops: bool) -> Half
+    requires { ⌜ Sized radix × Fits radix p × SumsOf radix p sums ⌝ }
+    requires { ⌜ (drops ≡ false → Undropped radix p left) ⌝ }
+    ensures { λ r. ⌜ HalfOf radix p left r ⌝ }
 {
     let before = p.partners;
+    if !drops {
+        return Half {
+            partners: before,
+            register: left.register,
+            keeps: true,
+            rest: rest_of(radix, p, sums, left.register),
+        };
+    }
     let mut partners = Position::EMPTY;
     let mut i: u8 = 0;
     while i < Model::REGISTERS {
@@ -77,12 +96,14 @@ fn left_half(p: Position, left: Target) -> Half
     Half {
         partners,
         register: in_set(left.set, left.register),
+        keeps: false,
+        rest: Rest::NONE,
     }
 }
 
 // The key of the position after both halves of a round, where the history then has this size, digit by digit: the position is not
 // made.
-fn key_after(radix: Radix, half: Half, size: u8, left: u8, right: Target) -> u32
+fn key_by_digits(radix: Radix, half: Half, size: u8, left: u8, right: Target) -> u32
     requires { ⌜ Sized radix × Fits radix (joinedTo half size left right) ⌝ }
     ensures { λ r. ⌜ r ≡ keyOf radix (joinedTo half size left right) ⌝ }
 {
@@ -97,6 +118,31 @@ fn key_after(radix: Radix, half: Half, size: u8, left: u8, right: Target) -> u32
     front * radix.sizes() + ((size - radix.least) as u32)
 }
 
+// The same by sums, where the right edge drops no register either.
+fn key_by_sums(radix: Radix, half: Half, size: u8, left: u8, right: Target) -> u32
+    requires { ⌜ Sized radix × Fits radix (joinedTo half size left right) ⌝ }
+    requires { ⌜ Summed radix half right ⌝ }
+    ensures { λ r. ⌜ r ≡ keyOf radix (joinedTo half size left right) ⌝ }
+{
+    let rest = half.rest;
+    let adds = rest.adds;
+    let states = (left as u32) * (radix.right as u32) + (right.state as u32);
+    let joined = rest.word + (right.register as u32) * rest.place - adds[right.register as usize];
+    let front = states * place_of(radix.registers) + joined;
+    front * radix.sizes() + ((size - radix.least) as u32)
+}
+
+fn key_after(radix: Radix, half: Half, size: u8, left: u8, right: Target, keeps: bool) -> u32
+    requires { ⌜ Sized radix × Fits radix (joinedTo half size left right) ⌝ }
+    requires { ⌜ (keeps ≡ true → Summed radix half right) ⌝ }
+    ensures { λ r. ⌜ r ≡ keyOf radix (joinedTo half size left right) ⌝ }
+{
+    if keeps {
+        return key_by_sums(radix, half, size, left, right);
+    }
+    key_by_digits(radix, half, size, left, right)
+}
+
 // Inserts the keys of the positions that a left and a right edge lead to, which can take one number. Two locally fresh edges take
 // a new number, or one seen before if there is room for such; at the history's greatest size both lead to one position.
 fn visit_pair(
@@ -106,9 +152,11 @@ fn visit_pair(
     half: Half,
     left: Transition,
     right: Transition,
+    keeps: bool,
 ) -> Explored
     requires { ⌜ Stored (source .keys) n (now table) × Keyed source ⌝ }
-    requires { ⌜ (half ≡ halfOf (source .position) (left .target)) × (compatible (source .position) Left (left .kind) (right .kind) ≡ true) ⌝ }
+    requires { ⌜ Halves (source .position) (left .target) half × (compatible (source .position) Left (left .kind) (right .kind) ≡ true) ⌝ }
+    requires { ⌜ (keeps ≡ true → Summed (source .radix) half (right .target)) ⌝ }
     requires { ⌜ PairFits (source .radix) (source .room) (source .position) left right ⌝ }
     ensures { λ r. ⌜ Visited (source .keys) (PairKey (source .radix) (source .room) (source .position) left right) n
         (now (table .entry)) r (now (table .exit)) ⌝ }
@@ -121,12 +169,12 @@ fn visit_pair(
     let target = left.target;
     let other_target = right.target;
     let size = rounds::size_after(kind, other_kind, p.history);
-    let key = key_after(radix, half, size, target.state, other_target);
+    let key = key_after(radix, half, size, target.state, other_target, keeps);
     let Explored::Count(m) = visit(table, n, key, keys) else {
         return Explored::TooMany;
     };
     if source.room & (size != p.history) & rounds::also_seen(kind, other_kind) {
-        let seen = key_after(radix, half, p.history, target.state, other_target);
+        let seen = key_after(radix, half, p.history, target.state, other_target, keeps);
         return visit(table, m, seen, keys);
     }
     Explored::Count(m)
@@ -137,18 +185,19 @@ fn visit_edges(
     table: &mut [u8],
     n: usize,
     source: Source,
+    half: Half,
     left: Transition,
     index: &[u8; SIZE],
     edges: Range,
 ) -> Explored
     requires { ⌜ Stored (source .keys) n (now table) × Keyed source ⌝ }
     requires { ⌜ Index (now index) ⌝ }
+    requires { ⌜ Halves (source .position) (left .target) half × RangeSummed (now index) (source .radix) half edges ⌝ }
     requires { ⌜ RangeFits (now index) (source .radix) (source .room) (source .position) left edges ⌝ }
     ensures { λ r. ⌜ Visited (source .keys) (RangeKey (now (index .entry)) (source .radix) (source .room) (source .position) left edges) n
         (now (table .entry)) r (now (table .exit)) ⌝ }
 {
     let p = source.position;
-    let half = left_half(p, left.target);
     let partners = p.partners;
     let kind = left.kind;
     let end = edges.end;
@@ -158,7 +207,8 @@ fn visit_edges(
         let right = game_index::transition_at(index, Side::Right, k);
         let other_kind = right.kind;
         if joint(&partners, kind, other_kind) {
-            let Explored::Count(more) = visit_pair(table, m, source, half, left, right) else {
+            let keeps = half.keeps & !game_index::drops_at(index, Side::Right, k);
+            let Explored::Count(more) = visit_pair(table, m, source, half, left, right, keeps) else {
                 return Explored::TooMany;
             };
             m = more;
@@ -177,6 +227,7 @@ pub fn visit_successors(table: &mut [u8], n: usize, index: &[u8; SIZE], source: 
         (now (table .entry)) r (now (table .exit)) ⌝ }
 {
     let p = source.position;
+    let sums = sums_of(source.radix, p);
     let edges = game_index::edges_of(index, Side::Left, p.left);
     let end = edges.end;
     let mut m = n;
@@ -185,7 +236,8 @@ pub fn visit_successors(table: &mut [u8], n: usize, index: &[u8; SIZE], source: 
         let e = game_index::edge_at(index, Side::Left, k);
         let left = game_index::transition_at(index, Side::Left, k);
         let others = game_index::tagged(index, Side::Right, p.right, e.tag);
-        let Explored::Count(more) = visit_edges(table, m, source, left, index, others) else {
+        let half = left_half(source.radix, p, sums, left.target, game_index::drops_at(index, Side::Left, k));
+        let Explored::Count(more) = visit_edges(table, m, source, half, left, index, others) else {
             return Explored::TooMany;
         };
         m = more;

@@ -16,6 +16,7 @@ ghost use Rattle.comparer_explore_laws.specs.Exploring.{Exploring};
 ghost use Rattle.comparer_explore.specs.ExploreAnswers.{Explores};
 
 mod expand;
+mod sums;
 
 // How many positions the table holds; or a position has no room.
 pub enum Explored {

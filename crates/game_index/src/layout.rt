@@ -34,6 +34,8 @@ pub const TO: usize = 4;
 
 pub const TO_SET: usize = 5;
 
+pub const DROPS: usize = 6;
+
 // An edge's code counts its state, tag and kind, of which there is room for four. Codes rise with the edges.
 pub const KINDS: usize = 4;
 

@@ -18,7 +18,7 @@ ghost use Rattle.game_index.specs.Layout.{edgePlaces, codes, sideWidth};
 ghost use Rattle.game_index.specs.Reading.{sideByte, modelIn, startIn, taskIn, gameIn, rulesIn};
 ghost use Rattle.game_index.specs.Ranges.{firstEdge, stateRange, tagRange, kindsOf};
 ghost use Rattle.game_index.specs.Ranges.{knownIn, locallyFreshIn, freshIn, allIn};
-ghost use Rattle.game_index.specs.Writing.{Index};
+ghost use Rattle.game_index.specs.Writing.{drops, Index};
 ghost use Rattle.game_index.specs.Transitions.{transitionOf};
 
 pub mod layout;
@@ -267,6 +267,16 @@ pub fn transition_at(index: &[u8; layout::SIZE], side: Side, k: u8) -> Transitio
     let kind = kind_at(index, side, k);
     let target = target_at(index, side, k);
     Transition { kind, target }
+}
+
+// The edge with this number drops a register.
+pub fn drops_at(index: &[u8; layout::SIZE], side: Side, k: u8) -> bool
+    requires { ⌜ Index (now index) ⌝ }
+    requires { ⌜ k < edgePlaces ⌝ }
+    ensures { λ r. ⌜ r ≡ drops (modelIn (now (index .entry)) side) (edgeOf (modelIn (now (index .entry)) side) k) ⌝ }
+{
+    let at = layout::EDGES + layout::EDGE * (k as usize);
+    byte_of(index, side, at + layout::DROPS) == 1
 }
 
 // The first edge whose code is not below this one.

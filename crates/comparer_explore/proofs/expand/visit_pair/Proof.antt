@@ -37,7 +37,7 @@ module _ (start : tie.Start) where
 
   half-fits : (size : ℕ) → size ∈ sizesAfter 6 (s .room) (s .position .history) (start .args .left .kind) (start .args .right .kind)
       → Fits (s .radix) (joinedTo (start .args .half) size (start .args .left .target .state) (start .args .right .target))
-  half-fits size m = rw (halves size) (start .pre .1 .1 (start .pre .1 .0 .1) size m)
+  half-fits size m = rw (halves size) (start .pre .1 .1 .1 (start .pre .1 .0 .1) size m)
 
   first-fits : (size : ℕ) → size ≡ firstSize 6 (s .position .history) (start .args .left .kind) (start .args .right .kind)
       → Fits (s .radix) (joinedTo (start .args .half) size (start .args .left .target .state) (start .args .right .target))
@@ -46,7 +46,7 @@ module _ (start : tie.Start) where
 key-after-requires : tie.Need-key-after-requires
 key-after-requires c κs =
     let start = c .before .before .before .before .before .before in
-    (start .pre .0 .1 .sized, first-fits start (c .size-after .result) (c .size-after .ensures))
+    ((start .pre .0 .1 .sized, first-fits start (c .size-after .result) (c .size-after .ensures)), start .pre .1 .1 .0)
 
 visit-requires : tie.Need-visit-requires
 visit-requires c κs =
@@ -122,10 +122,10 @@ key-after-requires-2 c κs =
     let asked = c .before in
     let start = begun (call asked) in
     let s = a (call asked) in
-    let seen = sym (tried asked) ∙ c .if1 .taken in (
-      start .pre .0 .1 .sized,
-      half-fits start (s .position .history) (seen-size (s .radix) (s .room) (s .position) (start .args .left) (start .args .right) seen),
-    )
+    let seen = sym (tried asked) ∙ c .if1 .taken in
+    ((start .pre .0 .1 .sized,
+    half-fits start (s .position .history) (seen-size (s .radix) (s .room) (s .position) (start .args .left) (start .args .right) seen)),
+    start .pre .1 .1 .0)
 
 visit-requires-2 : tie.Need-visit-requires-2
 visit-requires-2 c κs =

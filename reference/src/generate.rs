@@ -40,10 +40,12 @@ pub enum ItemKind {
     Blank,
     /// A byte string that is usually turned back.
     Damaged,
+    /// Many of the positions that the task could have. Not in the mix.
+    Dense,
 }
 
 impl ItemKind {
-    pub const ALL: [ItemKind; 9] = [
+    pub const ALL: [ItemKind; 10] = [
         ItemKind::Small,
         ItemKind::Near,
         ItemKind::Chain,
@@ -53,11 +55,22 @@ impl ItemKind {
         ItemKind::Reach,
         ItemKind::Blank,
         ItemKind::Damaged,
+        ItemKind::Dense,
     ];
 
     pub fn name(self) -> &'static str {
-        ["small", "near", "chain", "cover", "guess", "overwrite", "reach", "blank", "damaged"]
-            [self as usize]
+        match self {
+            ItemKind::Small => "small",
+            ItemKind::Near => "near",
+            ItemKind::Chain => "chain",
+            ItemKind::Cover => "cover",
+            ItemKind::Guess => "guess",
+            ItemKind::Overwrite => "overwrite",
+            ItemKind::Reach => "reach",
+            ItemKind::Blank => "blank",
+            ItemKind::Damaged => "damaged",
+            ItemKind::Dense => "dense",
+        }
     }
 
     pub fn from_name(name: &str) -> Option<ItemKind> {
@@ -98,8 +111,10 @@ fn task_of_kind(random: &mut Random, kind: ItemKind) -> Task {
         ItemKind::Guess => guesses::guess_pair(random),
         ItemKind::Overwrite => overwrites::overwrite_pair(random),
         ItemKind::Reach => covers::reach_pair(random),
+        ItemKind::Dense => covers::dense_pair(random),
     };
-    let only_large = kind == ItemKind::Reach && task.left.start_set().len() > 2;
+    let writes_all = matches!(kind, ItemKind::Reach | ItemKind::Dense);
+    let only_large = writes_all && task.left.start_set().len() > 2;
     histories::with_history(random, task, only_large)
 }
 

@@ -2,12 +2,14 @@
 //! answer has to keep to whatever is lent.
 
 use crate::certificate::{greatest_length, LOST_LENGTH};
-use crate::compare::{whole_entries, Answer, ENTRY_LENGTH, NEVER_LOST};
+use crate::compare::{whole_entries, Answer, Solution, ENTRY_LENGTH, NEVER_LOST};
 use crate::game::POSITION_LENGTH;
-use crate::model::Verdict;
+use crate::model::{Task, Verdict};
 use crate::random::Random;
+use crate::ways::limit;
 
-/// A table's length, by the entries that the task needs.
+/// A table's length, by the entries that the task needs, or by those from
+/// which on the compared library goes another way (`ways::limit`).
 #[derive(Clone, Copy, PartialEq, Eq, Debug)]
 pub enum Table {
     Exact,
@@ -16,6 +18,9 @@ pub enum Table {
     Zero,
     Larger,
     Spare,
+    AtLimit,
+    BelowLimit,
+    AboveLimit,
 }
 
 /// A buffer's length, by the bytes that the task needs or by the entries of
@@ -32,7 +37,7 @@ pub enum Buffer {
 }
 
 /// Tables and buffers are drawn from these lists.
-const TABLES: [Table; 10] = [
+const TABLES: [Table; 13] = [
     Table::Exact,
     Table::Exact,
     Table::Exact,
@@ -43,7 +48,13 @@ const TABLES: [Table; 10] = [
     Table::Spare,
     Table::Spare,
     Table::Spare,
+    Table::AtLimit,
+    Table::BelowLimit,
+    Table::AboveLimit,
 ];
+
+/// The tables that go by the limit.
+const AT_LIMIT: [Table; 3] = [Table::AtLimit, Table::BelowLimit, Table::AboveLimit];
 
 const BUFFERS: [Buffer; 10] = [
     Buffer::Exact,
@@ -62,7 +73,8 @@ const BUFFERS: [Buffer; 10] = [
 /// have every choice in them, whatever the seed: six verdicts or more, four
 /// tables and four buffers or more that are too small; and the buffer that is
 /// always enough, and one byte less, beside a table with no entry too many.
-pub const PLAN: [(Table, Buffer); 15] = [
+/// The last three go by the limit between the library's ways.
+pub const PLAN: [(Table, Buffer); 18] = [
     (Table::Spare, Buffer::Exact),
     (Table::Zero, Buffer::Exact),
     (Table::Larger, Buffer::Zero),
@@ -78,7 +90,37 @@ pub const PLAN: [(Table, Buffer); 15] = [
     (Table::Exact, Buffer::PerEntryLessOne),
     (Table::OneLessWithSpare, Buffer::PerEntry),
     (Table::Larger, Buffer::Exact),
+    (Table::AtLimit, Buffer::Exact),
+    (Table::BelowLimit, Buffer::Spare),
+    (Table::AboveLimit, Buffer::PerEntry),
 ];
+
+/// The longest table that is lent for the limit's sake.
+const LONGEST: usize = 4 << 20;
+
+/// What a task needs: entries, bytes of certificate; and the limit between
+/// the library's ways in entries.
+#[derive(Clone, Copy, Debug)]
+pub struct Needed {
+    pub entries: usize,
+    pub certificate: usize,
+    pub limit: usize,
+}
+
+impl Needed {
+    pub fn of(task: &Task, solution: &Solution) -> Needed {
+        Needed {
+            entries: solution.entries.len(),
+            certificate: solution.certificate.len(),
+            limit: limit(task),
+        }
+    }
+
+    /// Whether tables are lent at the limit and beside it.
+    pub fn has_limit(&self) -> bool {
+        (self.limit + 1) * ENTRY_LENGTH <= LONGEST
+    }
+}
 
 /// Bytes that make no entry.
 fn spare(random: &mut Random) -> usize {
@@ -92,11 +134,32 @@ fn beyond(random: &mut Random) -> usize {
 
 impl Table {
     pub fn name(self) -> &'static str {
-        ["exact", "one-less", "one-less-with-spare", "zero", "larger", "spare"][self as usize]
+        match self {
+            Table::Exact => "exact",
+            Table::OneLess => "one-less",
+            Table::OneLessWithSpare => "one-less-with-spare",
+            Table::Zero => "zero",
+            Table::Larger => "larger",
+            Table::Spare => "spare",
+            Table::AtLimit => "at-limit",
+            Table::BelowLimit => "below-limit",
+            Table::AboveLimit => "above-limit",
+        }
     }
 
-    fn length(self, random: &mut Random, entries: usize) -> usize {
-        let exact = entries * ENTRY_LENGTH;
+    /// What is lent in its place where the limit asks for too long a table.
+    fn without_limit(self) -> Table {
+        match self {
+            Table::AtLimit => Table::Exact,
+            Table::BelowLimit => Table::OneLess,
+            Table::AboveLimit => Table::Larger,
+            other => other,
+        }
+    }
+
+    fn length(self, random: &mut Random, needed: Needed) -> usize {
+        let exact = needed.entries * ENTRY_LENGTH;
+        let limit = needed.limit * ENTRY_LENGTH;
         let less = exact.saturating_sub(ENTRY_LENGTH);
         match self {
             Table::Exact => exact,
@@ -105,6 +168,9 @@ impl Table {
             Table::Zero => 0,
             Table::Larger => exact + beyond(random),
             Table::Spare => exact + spare(random),
+            Table::AtLimit => limit,
+            Table::BelowLimit => limit.saturating_sub(ENTRY_LENGTH),
+            Table::AboveLimit => limit + ENTRY_LENGTH,
         }
     }
 }
@@ -149,14 +215,27 @@ pub struct Lent {
     pub buffer_word: &'static str,
 }
 
-/// Lengths for a task that needs so many entries and so many bytes of
-/// certificate: the ones whose turn it is, or else drawn ones.
-pub fn lend(random: &mut Random, turn: Option<u64>, entries: usize, certificate: usize) -> Lent {
-    let planned = turn.and_then(|turn| PLAN.get(turn as usize));
-    let choice = planned.map_or_else(|| *random.pick(&TABLES), |(table, _)| *table);
-    let (table, table_word) = (choice.length(random, entries), choice.name());
+/// How lengths are chosen: drawn from all, or with a table that goes by the
+/// limit; or by the number of the case, as long as the plan goes.
+#[derive(Clone, Copy, PartialEq, Eq, Debug)]
+pub enum Choice {
+    Drawn,
+    DrawnAtLimit,
+    Turn(u64),
+}
+
+/// Lengths for a task that needs so much.
+pub fn lend(random: &mut Random, choice: Choice, needed: Needed) -> Lent {
+    let (planned, tables) = match choice {
+        Choice::Turn(turn) => (PLAN.get(turn as usize), &TABLES[..]),
+        Choice::Drawn => (None, &TABLES[..]),
+        Choice::DrawnAtLimit => (None, &AT_LIMIT[..]),
+    };
+    let choice = planned.map_or_else(|| *random.pick(tables), |(table, _)| *table);
+    let choice = if needed.has_limit() { choice } else { choice.without_limit() };
+    let (table, table_word) = (choice.length(random, needed), choice.name());
     let choice = planned.map_or_else(|| *random.pick(&BUFFERS), |(_, buffer)| *buffer);
-    let (buffer, buffer_word) = (choice.length(random, certificate, table), choice.name());
+    let (buffer, buffer_word) = (choice.length(random, needed.certificate, table), choice.name());
     Lent { table, table_word, buffer, buffer_word }
 }
 

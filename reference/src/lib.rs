@@ -19,3 +19,4 @@ pub mod runner;
 pub mod tally;
 pub mod task;
 pub mod text;
+pub mod ways;

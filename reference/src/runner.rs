@@ -8,7 +8,7 @@ use crate::frames::{reference_response, Request, Response};
 use crate::generate::proposals::{proposal, random_kind, ProposalKind};
 use crate::generate::sweeps::Sweep;
 use crate::generate::{item, item_of_kind, Item, ItemKind};
-use crate::lent::{breach, lend};
+use crate::lent::{breach, lend, Choice, Needed};
 use crate::model::{Task, Verdict};
 use crate::partner::{run_program, Adapter, Watch};
 use crate::random::Random;
@@ -74,6 +74,8 @@ pub struct Options {
     /// All certificates of this sort that come of the given task's own one;
     /// their number is the run's count.
     pub sweep: Option<Sweep>,
+    /// Tables that go by the limit between the library's ways only.
+    pub at_limit: bool,
     /// Proposed certificates of this kind only.
     pub proposal: Option<ProposalKind>,
     pub command: Vec<String>,
@@ -224,27 +226,30 @@ impl Runner {
         random: &mut Random,
         task: Vec<u8>,
     ) -> (Question, Reply) {
-        let solution = task::read(&task).ok().map(|parsed| {
+        let solved = task::read(&task).ok().map(|parsed| {
             let solution = self.solve(rules, &parsed);
             self.tally.add_outcome(&parsed, &solution);
             self.tally.add_features(&parsed, &solution);
             self.count_beside(&parsed, &solution);
-            solution
+            (parsed, solution)
         });
-        let (table, buffer) = self.lend(index, random, &solution);
+        let (table, buffer) = self.lend(index, random, &solved);
         let request =
             Request::Compare { rules, task, table: table.clone(), buffer: buffer.clone() };
-        let response = match &solution {
+        let response = match &solved {
             None => reference_response(&request),
-            Some(solution) => {
+            Some((_, solution)) => {
                 let (mut table, mut buffer) = (table, buffer);
                 let answer = solution.deliver(&mut table, &mut buffer);
                 Response::Compare { rules, answer, table, buffer }
             }
         };
-        if let Response::Compare { answer, .. } = &response {
+        if let Response::Compare { answer, table, .. } = &response {
             self.tally.add(format!("refusal:{}", answer.refusal));
             self.tally.add(format!("answer:{}", verdict_key(answer.verdict)));
+            if let Some((task, _)) = &solved {
+                self.tally.add_way(task, table.len(), answer.refusal);
+            }
         }
         (Question::Frame(request), Reply::Frame(response))
     }
@@ -255,14 +260,18 @@ impl Runner {
         &mut self,
         index: u64,
         random: &mut Random,
-        solution: &Option<Solution>,
+        solved: &Option<(Task, Solution)>,
     ) -> (Vec<u8>, Vec<u8>) {
-        let (entries, length) = needed_sizes(random, solution);
-        let turn = self.options.task.as_ref().map(|_| index);
-        let lent = lend(random, turn, entries, length);
+        let needed = needed_sizes(random, solved);
+        let choice = match self.options.task {
+            _ if self.options.at_limit => Choice::DrawnAtLimit,
+            Some(_) => Choice::Turn(index),
+            None => Choice::Drawn,
+        };
+        let lent = lend(random, choice, needed);
         self.tally.add(format!("table:{}", lent.table_word));
         self.tally.add(format!("buffer:{}", lent.buffer_word));
-        if let Some(solution) = solution {
+        if let Some((_, solution)) = solved {
             self.tally.add_limits(solution, lent.table, lent.buffer);
         }
         (random.bytes(lent.table), random.bytes(lent.buffer))
@@ -402,12 +411,14 @@ fn verdict_key(number: u32) -> String {
     Verdict::from_number(number).map_or("none".to_string(), Verdict::key)
 }
 
-/// Entries and certificate bytes that the task needs; made up where the
-/// task is turned back.
-fn needed_sizes(random: &mut Random, solution: &Option<Solution>) -> (usize, usize) {
-    match solution {
-        Some(solution) => (solution.entries.len(), solution.certificate.len()),
-        None => (random.below(5), random.below(50)),
+/// What the task needs; made up where it is turned back.
+fn needed_sizes(random: &mut Random, solved: &Option<(Task, Solution)>) -> Needed {
+    match solved {
+        Some((task, solution)) => Needed::of(task, solution),
+        None => {
+            let entries = random.below(5);
+            Needed { entries, certificate: random.below(50), limit: entries }
+        }
     }
 }
 

@@ -7,6 +7,7 @@ use crate::compare::{whole_entries, Solution};
 use crate::game::{attacks, existing_attack, replies, Attack, Position, Reply, CASE_NEW};
 use crate::generate::histories::SizeClass;
 use crate::model::*;
+use crate::ways::{beside_limit, Way};
 use std::collections::{BTreeMap, BTreeSet};
 
 #[derive(Clone, Default, Debug)]
@@ -74,6 +75,21 @@ impl Tally {
         }
         if table_is_full && buffer + 1 == length {
             self.add(format!("{limit}:one-less"));
+        }
+    }
+
+    /// Which way the compared library takes with a table of so many bytes, by
+    /// history and by whether the table was too small; and whether that is at
+    /// the limit between the ways, or an entry beside it.
+    pub fn add_way(&mut self, task: &Task, table: usize, refusal: u32) {
+        let way = Way::of(task, table).name();
+        let history = if task.history_record.is_some() { "stated" } else { "not-stated" };
+        let end = if refusal == 11 { "11" } else { "not-11" };
+        self.add(format!("way:{way}"));
+        self.add(format!("way:{way}:{history}:{end}"));
+        if let Some(side) = beside_limit(task, table) {
+            self.add(format!("limit:{side}"));
+            self.add(format!("limit:{side}:{end}"));
         }
     }
 

@@ -16,6 +16,8 @@ options    --first N            number of the first item, default 0
            --task FILE          this task in every case
            --sweep SORT         check: every cut (cuts) or every other value of every byte
                                 (bytes) of the given task's own certificate
+           --tables limit       compare: tables at the limit between the library's ways, or
+                                an entry beside it
            --proposal KIND      check: certificates of one kind only, as printed
            --require KEY:COUNT  at least COUNT cases under KEY, as printed; repeatable
            --fault FIELD[:N]    alter FIELD in the first answer that has it, from item N on
@@ -77,6 +79,7 @@ fn options(arguments: &[String]) -> Result<Options, String> {
         kind: None,
         task: None,
         sweep: None,
+        at_limit: false,
         proposal: None,
         command: command.to_vec(),
         fault: None,
@@ -104,6 +107,7 @@ fn set(options: &mut Options, name: &str, value: &str) -> Result<(), String> {
             options.task = Some(bytes);
         }
         "--sweep" => options.sweep = Some(Sweep::from_name(value).ok_or(USAGE)?),
+        "--tables" if value == "limit" => options.at_limit = true,
         "--proposal" => {
             options.proposal = Some(ProposalKind::from_name(value).ok_or(USAGE)?);
         }

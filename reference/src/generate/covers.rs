@@ -110,6 +110,19 @@ pub fn reach_pair(random: &mut Random) -> Task {
     Task::new(left, right, pairs)
 }
 
+/// The same without a register to spare: a good part of the positions that
+/// the task could have is reached.
+pub fn dense_pair(random: &mut Random) -> Task {
+    let sizes = [(20, (1, 1)), (20, (1, 4)), (30, (2, 1)), (30, (2, 3)), (25, (3, 2)), (5, (4, 1))];
+    let (registers, states) = random.weighted(&sizes);
+    let used: Vec<u8> = (1..=registers).collect();
+    let known_percent = *random.pick(&[0, 30, 100]);
+    let left = writer_of(random, &used, states, known_percent);
+    let right = writer_of(random, &used, states, known_percent);
+    let pairs = random_pairs(random, &left, &right);
+    Task::new(left, right, pairs)
+}
+
 /// Up to 4,000 positions, and more than 64,000 bytes of certificate: refused
 /// with 12 by the program `compare`. Some that are a little smaller, too.
 fn long_certificate(random: &mut Random) -> Task {
@@ -119,10 +132,17 @@ fn long_certificate(random: &mut Random) -> Task {
 
 fn writer(random: &mut Random, count: usize, states: usize, known_percent: usize) -> Model {
     let used = some_registers(random, count);
-    let set = set_of(&used);
+    let mut model = writer_of(random, &used, states, known_percent);
+    model.registers = register_count(random, model.registers);
+    model
+}
+
+/// All states hold these registers, which rise, and there are no others.
+fn writer_of(random: &mut Random, used: &[u8], states: usize, known_percent: usize) -> Model {
+    let set = set_of(used);
     let mut edges = Vec::new();
     for from in 0..states as u8 {
-        for &register in &used {
+        for &register in used {
             let to = random.below(states) as u8;
             let fresh = if random.chance(10) { Kind::GloballyFresh } else { Kind::LocallyFresh };
             edges.push(Edge { from, tag: 0, kind: fresh, register, to });
@@ -132,7 +152,7 @@ fn writer(random: &mut Random, count: usize, states: usize, known_percent: usize
         }
     }
     let states = (0..states).map(|_| State { set, end_mark: 0 }).collect();
-    let registers = register_count(random, *used.last().expect("a register"));
+    let registers = *used.last().expect("a register");
     let mut model = Model { registers, start: 0, states, edges };
     tidy(&mut model);
     model

@@ -14,6 +14,9 @@ pub const FAMILIES: &[(&str, &str, &str)] = &[
     ("rings", "A B", "rings of A and B states, A > B coprime; A + B - 2 rounds if A = B + 1"),
     ("rings-fresh", "A B R", "rings with R registers held and globally fresh edges; large reach"),
     ("listed", "S R W", "S states in a row, R registers held, W replies; all is lost and listed"),
+    ("filling", "S R", "ring-late behind a row of R states, the first of which holds nothing"),
+    ("filling-equal", "S R", "the same with locally fresh and known edges, no end marks; EQUAL"),
+    ("last", "A B", "A and B states, no registers, readers in the last ones; 1 position, EQUAL"),
     ("exact", "N", "N positions exactly, where 15 looping states can add up to it; EQUAL"),
     ("forks", "S R", "S states in a row, several replies, two of them to one position; EQUAL"),
     ("forks-late", "S R", "forks with an end mark on the left reader's last state; S - 1 rounds"),
@@ -39,6 +42,13 @@ pub fn family(name: &str, sizes: &[usize]) -> Result<Task, String> {
         "listed" if fits(&[(2, 16), (1, 6), (1, 4)]) && sizes[2] <= sizes[1] => {
             Ok(listed(sizes[0], sizes[1], sizes[2]))
         }
+        "filling" if fits(&[(1, 15), (1, 5)]) && sizes[0] + sizes[1] <= MAX_STATES => {
+            Ok(filling(sizes[0], sizes[1]))
+        }
+        "filling-equal" if fits(&[(1, 15), (1, 5)]) && sizes[0] + sizes[1] <= MAX_STATES => {
+            filling_equal(sizes[0], sizes[1]).ok_or_else(none)
+        }
+        "last" if fits(&[(1, 16), (1, 16)]) => Ok(last(sizes[0], sizes[1])),
         "exact" if fits(&[(1, 20_000)]) => exact(sizes[0]).ok_or_else(none),
         "forks" if fits(&[(1, 15), (0, 4)]) => Ok(forks(sizes[0], sizes[1])),
         "forks-late" if fits(&[(1, 15), (0, 4)]) => Ok(forks_late(sizes[0], sizes[1])),
@@ -102,6 +112,20 @@ fn ring_model(
     steps_on: impl Fn(usize) -> bool,
 ) -> Model {
     let per_state = (MAX_EDGES / states).min(registers);
+    let edges = ring_edges(states, registers, per_state, kind, steps_on);
+    let states = uniform_states(states, registers);
+    let mut model = Model { registers: registers as u8, start: 0, states, edges };
+    tidy(&mut model);
+    model
+}
+
+fn ring_edges(
+    states: usize,
+    registers: usize,
+    per_state: usize,
+    kind: Kind,
+    steps_on: impl Fn(usize) -> bool,
+) -> Vec<Edge> {
     let mut edges = Vec::new();
     for from in 0..states {
         for place in 0..per_state {
@@ -110,8 +134,48 @@ fn ring_model(
             edges.push(Edge { from: from as u8, tag: 0, kind, register, to: to as u8 });
         }
     }
-    let states = uniform_states(states, registers);
-    let mut model = Model { registers: registers as u8, start: 0, states, edges };
+    edges
+}
+
+/// The late ring, but both readers begin with no number: before the ring
+/// stands a state for each register, and the first of them holds none.
+fn filling(states: usize, registers: usize) -> Task {
+    let ring = ring_late(states, registers);
+    Task::new(behind_a_row(ring.left), behind_a_row(ring.right), Vec::new())
+}
+
+/// Behind such rows, rings with known edges for all registers and locally
+/// fresh ones for as many as 64 edges allow: every attack has a reply, and
+/// the history's size need not rise. None if no locally fresh edge is left.
+fn filling_equal(states: usize, registers: usize) -> Option<Task> {
+    let per_state = (MAX_EDGES - registers) / states;
+    let writing = per_state.checked_sub(registers)?.min(registers);
+    let model = |steps_on: fn(usize) -> bool| {
+        let edges = |count, kind| ring_edges(states, registers, count, kind, steps_on);
+        let edges = [edges(writing, Kind::LocallyFresh), edges(registers, Kind::Known)].concat();
+        let states = uniform_states(states, registers);
+        behind_a_row(Model { registers: registers as u8, start: 0, states, edges })
+    };
+    let task = Task::new(model(|_| true), model(|place| place % 2 == 0), Vec::new());
+    (writing > 0).then_some(task)
+}
+
+/// The model behind a row of states, each of which writes the next register.
+fn behind_a_row(ring: Model) -> Model {
+    let row = ring.registers;
+    let mut states: Vec<State> =
+        (0..row).flat_map(|held| uniform_states(1, held as usize)).collect();
+    states.extend(ring.states);
+    let writing = (0..row).map(|from| Edge {
+        from,
+        tag: 0,
+        kind: Kind::GloballyFresh,
+        register: from + 1,
+        to: from + 1,
+    });
+    let moved = ring.edges.iter().map(|e| Edge { from: e.from + row, to: e.to + row, ..*e });
+    let edges = writing.chain(moved).collect();
+    let mut model = Model { registers: row, start: 0, states, edges };
     tidy(&mut model);
     model
 }
@@ -187,6 +251,19 @@ pub fn listed(states: usize, registers: usize, replies: usize) -> Task {
     let (mut left, right) = (chain(1), chain(replies));
     left.states[states - 1].end_mark = 1;
     Task::new(left, right, Vec::new())
+}
+
+/// No state but the last is ever reached. Where no smaller history is stated,
+/// no position of such models has a greater key (ways.rs), so its bit is the
+/// last one.
+fn last(left: usize, right: usize) -> Task {
+    let model = |states: usize| Model {
+        registers: 0,
+        start: states as u8 - 1,
+        states: uniform_states(states, 0),
+        edges: Vec::new(),
+    };
+    Task::new(model(left), model(right), Vec::new())
 }
 
 /// Positions reached by two equal states that hold 0 to 5 registers and have

@@ -6,6 +6,7 @@ use reference::certificate::{listed_position, listed_rounds, LOST_LENGTH};
 use reference::compare::{solve, Solution};
 use reference::generate::doubles::doubled;
 use reference::generate::families::{family, FAMILIES};
+use reference::generate::histories::stating;
 use reference::generate::proposals::{proposal, ProposalKind};
 use reference::generate::quota::*;
 use reference::generate::sweeps::Sweep;
@@ -36,6 +37,7 @@ pub const TESTS: &[Test] = &[
     ("generator: history records are damaged in every way", damaged_histories),
     ("generator: families are valid", valid_families),
     ("generator: families of a stated size", stated_sizes),
+    ("generator: families whose readers begin with nothing", filled_from_nothing),
 ];
 
 fn quotas_are_met(rules: Rules) {
@@ -197,6 +199,30 @@ fn stated_sizes() {
     let solution = solved("rings-fresh", &[5, 4, 2]);
     assert_eq!((solution.verdict, solution.rounds), (Verdict::Differ, 7));
     assert!(solution.entries.len() > 100);
+}
+
+/// Both readers hold nothing at the start, so that no number need have been
+/// seen; and all sizes from there on are reached.
+fn filled_from_nothing() {
+    for (name, sizes) in
+        [("filling", &[6, 2]), ("filling-equal", &[6, 2]), ("filling-equal", &[4, 3])]
+    {
+        let task = family(name, sizes).expect("a family");
+        assert_eq!(task.held_at_start(), 0);
+        for task in [stating(task.clone(), 0).expect("nothing is held"), task] {
+            assert_eq!(read(&write(&task)).as_ref(), Ok(&task));
+            for rules in Rules::ALL {
+                let solution = solve(rules, &task);
+                let sizes: BTreeSet<u8> = solution.entries.iter().map(|(p, _)| p.history).collect();
+                assert!(sizes.into_iter().eq(task.history()..=13), "{name}");
+                let is_kept = name == "filling-equal" || rules == Rules::ONE_WAY;
+                assert_eq!(solution.verdict, rules.verdict(is_kept), "{name}");
+            }
+        }
+    }
+    // One state too many, and no edge left that writes.
+    assert!(family("filling", &[13, 4]).is_err() && family("filling-equal", &[13, 4]).is_err());
+    assert!(family("filling-equal", &[11, 5]).is_err() && family("filling", &[0, 1]).is_err());
 }
 
 /// The records of a byte string, the last one as far as it goes; up to a kind

@@ -62,7 +62,7 @@ fn assert_same(operation: &str, counts: &[&str]) {
     assert!(text.ends_with("SAME: 3000 cases, 0 mismatches, 0 counts too small\n"), "{text}");
 }
 
-const SIZES: [&str; 15] = [
+const SIZES: [&str; 22] = [
     "refusal:11:50",
     "refusal:12:50",
     "rounds:15+:10",
@@ -78,6 +78,13 @@ const SIZES: [&str; 15] = [
     "limit-17:one-less:20",
     "limit-10:met:20",
     "limit-10:one-less:20",
+    "way:bits:200",
+    "way:chains:300",
+    "limit:at:100",
+    "limit:below:100",
+    "limit:above:100",
+    "limit:at:not-11:50",
+    "limit:below:not-11:50",
 ];
 
 const REPLIES: [&str; 4] = [

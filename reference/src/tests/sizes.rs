@@ -9,12 +9,13 @@ use reference::baseline;
 use reference::compare::{solve, Answer, Solution};
 use reference::generate::families::family;
 use reference::generate::histories::stating;
-use reference::lent::{breach, lend, PLAN};
+use reference::lent::{breach, lend, Choice, Needed, PLAN};
 use reference::model::Task;
 use reference::random::Random;
 use reference::rules::Rules;
 use reference::tally::Tally;
 use reference::task::{read, write};
+use reference::ways::{beside_limit, limit, possible_keys, Way};
 
 pub const TESTS: &[Test] = &[
     ("sizes: certificates of items keep to the positions", || items(Rules::TWO_WAY)),
@@ -24,6 +25,7 @@ pub const TESTS: &[Test] = &[
     ("sizes: 10 bytes an entry can be needed", all_kept),
     ("sizes: answers that no task can have", breaches),
     ("sizes: what a given task is lent", planned),
+    ("sizes: where the library's ways part", ways_part),
 ];
 
 /// Records of a certificate, those of kept positions and those of lost ones.
@@ -105,7 +107,7 @@ fn items(rules: Rules) {
 }
 
 /// Families with all that they can come to, some of them with a history.
-const SIZED: [(&str, &[usize]); 14] = [
+const SIZED: [(&str, &[usize]); 17] = [
     ("dearest", &[4]),
     ("dearest-equal", &[4]),
     ("ring", &[3, 4]),
@@ -120,14 +122,17 @@ const SIZED: [(&str, &[usize]); 14] = [
     ("exact", &[210]),
     ("forks", &[4, 2]),
     ("forks-late", &[5, 3]),
+    ("filling", &[4, 2]),
+    ("filling-equal", &[3, 2]),
+    ("last", &[16, 15]),
 ];
 
-/// Without a history record, and with the sizes that fit among 6, 8 and 12.
+/// Without a history record, and with the sizes that fit among 0, 6, 8 and 12.
 fn sized_families() -> Vec<Task> {
     let mut list = Vec::new();
     for (name, sizes) in SIZED {
         let task = family(name, sizes).expect("a family");
-        let sizes = [6, 8, 12].into_iter();
+        let sizes = [0, 6, 8, 12].into_iter();
         list.extend(sizes.filter_map(|size| stating(task.clone(), size).ok()));
         list.push(task);
     }
@@ -223,17 +228,17 @@ fn breaches() {
 }
 
 /// Refusals and words of one round of the plan.
-fn planned_round(seed: u64, solution: &Solution) -> Tally {
+fn planned_round(seed: u64, task: &Task, solution: &Solution) -> Tally {
     let mut seen = Tally::default();
     let mut random = Random::new(seed);
     for turn in 0..PLAN.len() as u64 {
-        let (entries, length) = (solution.entries.len(), solution.certificate.len());
-        let chosen = lend(&mut random, Some(turn), entries, length);
+        let chosen = lend(&mut random, Choice::Turn(turn), Needed::of(task, solution));
         let (answer, ..) = lent(solution, chosen.table, chosen.buffer);
         seen.add(format!("refusal:{}", answer.refusal));
         seen.add(format!("table:{}", chosen.table_word));
         seen.add(format!("buffer:{}", chosen.buffer_word));
         seen.add_limits(solution, chosen.table, chosen.buffer);
+        seen.add_way(task, chosen.table, answer.refusal);
     }
     seen
 }
@@ -244,16 +249,51 @@ fn planned() {
     for (number, task) in sized_families().into_iter().enumerate() {
         for rules in Rules::ALL {
             let solution = baseline::solve(rules, &task);
-            let seen = planned_round(number as u64, &solution);
+            let seen = planned_round(number as u64, &task, &solution);
             let table = seen.table();
             let counts = ["0", "11", "12"].map(|n| seen.get(&format!("refusal:{n}")));
             assert!(counts[0] >= 5 && counts[1] >= 3 && counts[2] >= 3, "{table}");
-            assert_eq!(table.matches("table:").count(), 6, "{table}");
+            let has_limit = Needed::of(&task, &solution).has_limit();
+            let choices = if has_limit { 9 } else { 6 };
+            assert_eq!(table.matches("table:").count(), choices, "{table}");
+            let beside = ["at", "below", "above"].map(|side| seen.get(&format!("limit:{side}")));
+            assert_eq!(beside.iter().all(|&n| n >= 1), has_limit, "{table}");
             assert_eq!(table.matches("buffer:").count(), 7, "{table}");
             for (all, limit) in [("listed:all", "limit-17"), ("kept:all", "limit-10")] {
                 let sides = ["met", "one-less"].map(|side| seen.get(&format!("{limit}:{side}")));
-                assert_eq!(seen.get(all) == 15, sides[0] >= 1 && sides[1] >= 1, "{table}");
+                let in_every_case = seen.get(all) == PLAN.len() as u64;
+                assert_eq!(in_every_case, sides[0] >= 1 && sides[1] >= 1, "{table}");
             }
         }
+    }
+}
+
+/// Keys and limits by hand: states, partners in base 8, sizes up to 13; the
+/// least number of entries that have 40 bits for each of them.
+fn ways_part() {
+    for (name, sizes, history, keys, entries) in [
+        ("dearest", &[0][..], None, 1, 1),
+        ("dearest", &[6], None, 262_144, 6_554),
+        ("dearest", &[4], Some(8), 4_096 * 6, 615),
+        ("rings", &[5, 5], None, 5 * 5 * 8, 5),
+        ("last", &[16, 15], None, 240, 6),
+        ("last", &[16, 16], Some(0), 256 * 14, 90),
+        ("rings-fresh", &[16, 12, 3], None, 16 * 12 * 512, 2_458),
+        ("forks", &[3, 2], Some(13), 4 * 4 * 262_144, 104_858),
+        ("filling-equal", &[13, 3], Some(0), 16 * 16 * 512 * 14, 45_876),
+    ] {
+        let task = family(name, sizes).expect("a family");
+        let stated = history.map(|size| stating(task.clone(), size).expect("it fits"));
+        let task = stated.unwrap_or(task);
+        assert_eq!((possible_keys(&task), limit(&task)), (keys, entries), "{name}");
+        let seen = |table| (Way::of(&task, table), beside_limit(&task, table));
+        let exact = 13 * entries;
+        assert_eq!(seen(exact), (Way::Bits, Some("at")));
+        assert_eq!(seen(exact + 12), (Way::Bits, Some("at")));
+        assert_eq!(seen(exact + 13), (Way::Bits, Some("above")));
+        assert_eq!(seen(exact + 26), (Way::Bits, None));
+        assert_eq!(seen(exact - 1), (Way::Chains, Some("below")));
+        assert_eq!(seen(exact - 13), (Way::Chains, Some("below")));
+        assert!(entries == 1 || seen(exact - 14) == (Way::Chains, None));
     }
 }

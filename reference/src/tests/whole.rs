@@ -401,6 +401,8 @@ fn baseline_agrees(rules: Rules) {
         ("rings", &[16, 15]),
         ("forks", &[5, 2]),
         ("forks-late", &[15, 2]),
+        ("filling", &[5, 2]),
+        ("filling-equal", &[4, 3]),
     ] {
         let task = family(name, sizes).expect("a family");
         assert!(baseline::solve(rules, &task) == solve(rules, &task), "{name}");

@@ -89,6 +89,20 @@ static void spoil_table(struct nuldopa_answer a, uint8_t *table, size_t length)
         table[length]++;
 }
 
+/* The last byte of a table at the limit between the library's ways, or with an entry fewer or more. */
+static void spoil_at_limit(struct nuldopa_answer a, const uint8_t *task, size_t task_length, uint8_t *table, size_t length)
+{
+    struct start start;
+    if (nuldopa_is_of_a_record(a.refusal) || length == 0)
+        return;
+    read_start(&start, task, task_length);
+    size_t limit = limit_entries(&start), entries = length / NULDOPA_ENTRY_BYTES;
+    if ((fault_is("table changed at the limit") && entries == limit) ||
+        (fault_is("table changed an entry below the limit") && entries + 1 == limit) ||
+        (fault_is("table changed an entry above the limit") && entries == limit + 1))
+        table[length - 1]++;
+}
+
 static void spoil_certificate(struct nuldopa_answer a, uint8_t *certificate, size_t length)
 {
     if (fault_is("buffer changed by a refusal") && a.refusal != 0 && length > 0)
@@ -256,6 +270,7 @@ static struct nuldopa_answer faulty_compare(const uint8_t *task, size_t task_len
     if (fault_is("a record more"))
         a = with_a_record_more(a, certificate, certificate_length);
     spoil_table(a, table, table_length);
+    spoil_at_limit(a, task, task_length, table, table_length);
     spoil_certificate(a, certificate, certificate_length);
     return altered(a);
 }

@@ -19,7 +19,9 @@ enum {
     ROUNDS_AT = ATTACK_AT + 3,
     WHOLE_ENTRIES = 4000,
     WHOLE_TABLE = WHOLE_ENTRIES * NULDOPA_ENTRY_BYTES,
-    WHOLE_CERTIFICATE = NULDOPA_MOST_CERTIFICATE_BYTES(WHOLE_TABLE)
+    WHOLE_CERTIFICATE = NULDOPA_MOST_CERTIFICATE_BYTES(WHOLE_TABLE),
+    MOST_LIMIT_ENTRIES = 80000, /* larger tables are not lent for the limit's sake */
+    MOST_CHOSEN_TABLE = MOST_LIMIT_ENTRIES * NULDOPA_ENTRY_BYTES + NEAR_SIZES
 };
 
 static const uint32_t never_lost = UINT32_MAX;
@@ -33,6 +35,10 @@ static void must(int holds, const char *what, int line)
 }
 #define MUST(condition) must((condition) != 0, #condition, __LINE__)
 
+/* Which way the library explores, and how its table stands to the limit between both (`task.h`). */
+enum { CHAINS, BITS, WAYS };
+enum { AT_LIMIT, BELOW_LIMIT, ABOVE_LIMIT, FAR_FROM_LIMIT, PLACES };
+
 enum { REFUSALS = 16, DIGITS = 33, ROUNDS = 64, SEEN_BEFORE = 7, CASES = 9, EDGES = 64, SIZES = NULDOPA_MOST_SEEN + 1 };
 
 /* For libFuzzer: an input that brings an outcome of a game not seen before is worth keeping. Counts of positions, of records
@@ -45,12 +51,15 @@ struct outcomes {
     uint8_t attacks[2][EDGES][CASES];   /* in certificates */
     uint8_t sizes[SIZES][2];            /* of histories at the start, lost and kept */
     uint8_t accepted[REFUSALS][DIGITS]; /* by what the comparer then answers, and rounds too many */
+    uint8_t explored[WAYS][PLACES][REFUSALS];
 };
 static volatile struct outcomes outcomes[2] __attribute__((section("__libfuzzer_extra_counters")));
 
-/* For people: how often the comparer gave a verdict, the checker accepted a proposal (both at 0), and each refusal. */
+/* For people: how often the comparer gave a verdict, the checker accepted a proposal (both at 0), and each refusal; and how
+ * often it explored each way, and with a table at the limit. */
 struct totals {
     unsigned long compared[REFUSALS], proposed[REFUSALS];
+    unsigned long ways[WAYS], places[PLACES];
 };
 static struct totals totals[2];
 
@@ -79,10 +88,18 @@ static void print_counts(const char *name, const char *which, const unsigned lon
     fprintf(stderr, "\n");
 }
 
+static void print_ways(const struct game *game)
+{
+    const struct totals *t = game->totals;
+    fprintf(stderr, "fuzz: %s, explored by bits: %lu, by chains: %lu, at the limit: %lu, an entry below: %lu, above: %lu\n",
+            game->name, t->ways[BITS], t->ways[CHAINS], t->places[AT_LIMIT], t->places[BELOW_LIMIT], t->places[ABOVE_LIMIT]);
+}
+
 static void report_game(const struct game *game)
 {
     print_counts(game->name, "verdicts", game->totals->compared);
     print_counts(game->name, "proposals accepted", game->totals->proposed);
+    print_ways(game);
 }
 
 static void report(void)
@@ -321,6 +338,32 @@ static void expect_verdict(const struct comparison *c)
     seen_verdict(c);
 }
 
+static int place_beside(size_t entries, size_t limit)
+{
+    if (entries == limit)
+        return AT_LIMIT;
+    if (entries + 1 == limit)
+        return BELOW_LIMIT;
+    return entries == limit + 1 ? ABOVE_LIMIT : FAR_FROM_LIMIT;
+}
+
+static size_t limit_of(const struct lent *task)
+{
+    struct start start;
+    read_start(&start, task->bytes, task->length);
+    return limit_entries(&start);
+}
+
+/* The task is read. */
+static void seen_way(const struct comparison *c)
+{
+    size_t limit = limit_of(&c->task), entries = c->table.length / NULDOPA_ENTRY_BYTES;
+    int way = entries >= limit ? BITS : CHAINS, place = place_beside(entries, limit);
+    seen(&c->game->outcomes->explored[way][place][c->answer.refusal]);
+    c->game->totals->ways[way]++;
+    c->game->totals->places[place]++;
+}
+
 static void compare(struct comparison *c, const struct input *input, enum edge edge, size_t table, size_t certificate)
 {
     const struct game *game = c->game;
@@ -338,6 +381,8 @@ static void compare(struct comparison *c, const struct input *input, enum edge e
         expect_refusal(c);
     else
         expect_verdict(c);
+    if (!nuldopa_is_of_a_record(c->answer.refusal))
+        seen_way(c);
     seen(&game->outcomes->compared[c->answer.refusal]);
     game->totals->compared[c->answer.refusal]++;
 }
@@ -422,11 +467,28 @@ static uint32_t refusal_with(const struct comparison *whole, size_t table, size_
     return certificate < whole->answer.length ? NULDOPA_BUFFER_TOO_SMALL : 0;
 }
 
+/* Whether a table at the limit, or with an entry more, can be lent. Where the whole table is too small, one with more entries
+ * might do. */
+static int limit_fits(const struct comparison *whole, size_t limit)
+{
+    return limit < (whole->answer.refusal == 0 ? MOST_LIMIT_ENTRIES : WHOLE_ENTRIES);
+}
+
+/* The bytes near which a table's size is chosen: what is needed, or the limit. */
+static size_t near_bytes(const struct comparison *whole, const struct input *input)
+{
+    size_t entries = whole->answer.positions;
+    if (input->table_choice >= CHOICE_OF_LIMIT && !nuldopa_is_of_a_record(whole->answer.refusal) &&
+        limit_fits(whole, limit_of(&whole->task)))
+        entries = limit_of(&whole->task);
+    return entries * NULDOPA_ENTRY_BYTES;
+}
+
 /* Neither the sizes nor what the buffers held before have any influence on a verdict. */
 static void compare_chosen(const struct comparison *whole, const struct input *input)
 {
     size_t needed = whole->answer.positions * (size_t)NULDOPA_ENTRY_BYTES;
-    size_t table = chosen_size(input->table_choice, needed);
+    size_t table = chosen_size(input->table_choice, near_bytes(whole, input));
     size_t certificate =
         chosen_size(input->certificate_choice, input->certificate_choice < CHOICE_OF_ENOUGH
                                                    ? whole->answer.length
@@ -525,11 +587,11 @@ static void expect_one_game(const struct input *input, uint32_t refusal, uint32_
         MUST(refusal == refusal_one_way);
 }
 
-static void open_comparison(struct comparison *c)
+static void open_comparison(struct comparison *c, size_t table)
 {
     lent_open(&c->task, MOST_INPUT_BYTES);
-    lent_open(&c->table, WHOLE_TABLE + NEAR_SIZES);
-    lent_open(&c->certificate, NULDOPA_MOST_CERTIFICATE_BYTES(WHOLE_TABLE + NEAR_SIZES) + NEAR_SIZES);
+    lent_open(&c->table, table);
+    lent_open(&c->certificate, NULDOPA_MOST_CERTIFICATE_BYTES(table) + NEAR_SIZES);
 }
 
 int LLVMFuzzerInitialize(int *count, char ***arguments);
@@ -538,9 +600,9 @@ int LLVMFuzzerTestOneInput(const uint8_t *bytes, size_t length);
 int LLVMFuzzerInitialize(int *count, char ***arguments)
 {
     (void)count;
-    open_comparison(&whole_equality);
-    open_comparison(&whole_one_way);
-    open_comparison(&chosen);
+    open_comparison(&whole_equality, WHOLE_TABLE);
+    open_comparison(&whole_one_way, WHOLE_TABLE);
+    open_comparison(&chosen, MOST_CHOSEN_TABLE);
     lent_open(&check.task, MOST_INPUT_BYTES);
     lent_open(&check.certificate, WHOLE_CERTIFICATE);
     traps_set((*arguments)[0]);

@@ -10,8 +10,9 @@
  * Bit 1 of byte 0 says which edge of a page the buffers stand against: 0 with their end, 1 with their start.
  *
  * A choice says how many bytes are lent: below 8000 hexadecimal, its last 11 bits (0 and odd counts too); from there on,
- * what is needed and up to 16 bytes less or 15 more, by its last 5 bits; for the certificate buffer from C000 on, what is
- * always enough beside the table, and up to as many less or more. Numbers of two bytes have their high byte first. */
+ * what is needed and up to 16 bytes less or 15 more, by its last 5 bits. From C000 on, up to as many less or more than, for
+ * the certificate buffer, what is always enough beside the table; for the table, the limit between the library's two ways
+ * (`task.h`): that many entries, one fewer and one more are among these. Numbers of two bytes have their high byte first. */
 #ifndef INPUT_H
 #define INPUT_H
 
@@ -21,7 +22,8 @@ enum {
     HEAD_BYTES = 5,
     MOST_INPUT_BYTES = 8192,
     CHOICE_OF_NEEDED = 0x8000,
-    CHOICE_OF_ENOUGH = 0xc000,
+    CHOICE_OF_ENOUGH = 0xc000, /* for the certificate buffer */
+    CHOICE_OF_LIMIT = 0xc000,  /* for the table */
     SMALL_SIZES = 2048,
     NEAR_SIZES = 32,
     NEAR_BELOW = 16

@@ -1,7 +1,8 @@
-/* seeds FOLDER TASK...: writes inputs of the fuzzer into the folder, four for each task file: one for the comparers, its
- * lent sizes by turns exact, near what is needed and small, and one whose buffer is just what is always enough beside an
- * exact table; and for the checkers one with each comparer's certificate. Then four more with a history size, 0 to 14 by
- * turns, in the place of the file's own. */
+/* seeds FOLDER TASK...: writes inputs of the fuzzer into the folder, seven for each task file: one for the comparers, its
+ * lent sizes by turns exact, near what is needed and small; one whose buffer is just what is always enough beside an exact
+ * table, and three with such a buffer beside a table at the limit between the library's ways, with an entry fewer and with
+ * one more; and for the checkers one with each comparer's certificate. Then seven more with a history size, 0 to 14 by turns,
+ * in the place of the file's own. */
 #include "../../include/nuldopa.h"
 #include "input.h"
 #include "task.h"
@@ -46,6 +47,16 @@ static unsigned choice(int number)
                            : (unsigned)(number % 3 == 1 ? CHOICE_OF_NEEDED : 0) + (unsigned)number * 7;
 }
 
+static void write_at_limit(const char *folder, int number, struct input *input)
+{
+    input->table_choice = CHOICE_OF_LIMIT + NEAR_BELOW;
+    write_input(folder, number, "compare-at-limit", input);
+    input->table_choice -= NULDOPA_ENTRY_BYTES;
+    write_input(folder, number, "compare-below-limit", input);
+    input->table_choice += 2 * NULDOPA_ENTRY_BYTES;
+    write_input(folder, number, "compare-above-limit", input);
+}
+
 static void write_checked(const char *folder, int number, const char *what, struct input *input,
                           nuldopa_compare_function *compare)
 {
@@ -65,6 +76,7 @@ static void write_inputs(const char *folder, int number, size_t task_length)
     input.table_choice = CHOICE_OF_NEEDED + NEAR_BELOW;
     input.certificate_choice = CHOICE_OF_ENOUGH + NEAR_BELOW;
     write_input(folder, number, "compare-enough", &input);
+    write_at_limit(folder, number, &input);
     input.calls_checker = 1;
     write_checked(folder, number, "check", &input, nuldopa_compare);
     write_checked(folder, number, "check-one-way", &input, nuldopa_compare_one_way);

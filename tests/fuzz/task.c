@@ -35,6 +35,9 @@ void read_start(struct start *start, const uint8_t *task, size_t length)
         const uint8_t *body = task + at + 1;
         if (task[at] == HEADER) {
             model = at > 0;
+            if (model == 0)
+                start->registers = body[0];
+            start->states[model] = body[1];
             start->position[model] = body[2];
         } else if (task[at] == STATE) {
             start->sets[model][body[0]] = body[1];
@@ -59,4 +62,14 @@ unsigned held_together(const struct start *start, const uint8_t *position)
         held += (right >> (i - 1) & 1) && !is_partner(position, i);
     }
     return held;
+}
+
+size_t limit_entries(const struct start *start)
+{
+    enum { BITS_AN_ENTRY = 40, PARTNERS = 8 };
+    size_t sizes = (size_t)(NULDOPA_MOST_SEEN + 1 - start->position[HISTORY_AT]);
+    size_t keys = (size_t)start->states[0] * start->states[1] * sizes;
+    for (uint8_t i = 0; i < start->registers; i++)
+        keys *= PARTNERS;
+    return (keys + BITS_AN_ENTRY - 1) / BITS_AN_ENTRY;
 }

@@ -1,4 +1,4 @@
-/* What the rules for history sizes need of a task file. */
+/* What the rules for history sizes need of a task file, and the limit between the library's two ways. */
 #ifndef TASK_H
 #define TASK_H
 
@@ -25,8 +25,11 @@ size_t body_bytes(uint8_t kind);
  * is another. */
 size_t after_pairs(const uint8_t *task, size_t length);
 
-/* Of such a file: the register sets of both models, the start position with the size as it is stated, or 13. */
+/* Of such a file: the left model's registers, the states and their register sets of both models, the start position with the
+ * size as it is stated, or 13. */
 struct start {
+    uint8_t registers;
+    uint8_t states[2];
     uint8_t sets[2][MOST_STATES];
     uint8_t position[HISTORY_AT + 1];
 };
@@ -34,5 +37,10 @@ void read_start(struct start *start, const uint8_t *task, size_t length);
 
 /* The numbers that the two readers of a position hold together, shared ones counted as one. The states exist. */
 unsigned held_together(const struct start *start, const uint8_t *position);
+
+/* While the library explores, it has a bit for each key that a position of the task could have, if these fit: 40 to an entry.
+ * Otherwise it chains what it finds. This is the fewest entries in which they fit. A key has both states, a digit in base 8
+ * for each left register, and a size from the start's up to 13. The task is read. */
+size_t limit_entries(const struct start *start);
 
 #endif

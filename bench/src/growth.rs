@@ -10,7 +10,7 @@ use std::process::Command;
 
 /// A family with its sizes, and the positions that it reaches, so that what is too large is left out unmeasured. Where a game
 /// stands before it, that one is played; where a history size stands after it, the task states it.
-const FAMILIES: [(&str, usize); 22] = [
+const FAMILIES: [(&str, usize); 28] = [
     ("dearest 4", 209),
     ("dearest 5", 1_546),
     ("dearest 6", 13_327),
@@ -26,6 +26,10 @@ const FAMILIES: [(&str, usize); 22] = [
     ("ring-equal 16 6", 3_027_331),
     ("ring-late 16 6", 3_027_331),
     ("rings-fresh 16 15 6", 3_062_014),
+    ("rings-fresh 16 12 3", 1_585),
+    ("rings-fresh 16 12 4", 9_985),
+    ("rings-fresh 16 12 5", 73_921),
+    ("rings-fresh 16 12 6", 631_401),
     ("one-way dearest-equal 5", 1_546),
     ("one-way rings 16 15", 240),
     ("one-way rings-fresh 12 11 5", 203_941),
@@ -33,6 +37,8 @@ const FAMILIES: [(&str, usize); 22] = [
     ("dearest-equal 6 --history 12", 26_653),
     ("rings-fresh 12 11 4 --history 8", 27_953),
     ("ring-late 12 5 --history 10", 218_586),
+    ("filling 12 4 --history 0", 33_632),
+    ("filling-equal 13 3 --history 0", 47_041),
 ];
 
 const HISTORY: &str = "--history";
@@ -82,6 +88,8 @@ pub struct Row {
     pub family: &'static str,
     game: &'static str,
     task: PathBuf,
+    /// How the library tells, with a table of exactly its positions, what it has found: `bits` or `chains`.
+    pub way: String,
     pub positions: usize,
     rounds: u32,
     length: usize,
@@ -111,6 +119,7 @@ impl Row {
             family,
             game,
             task,
+            way: counted.number("way")?,
             positions,
             rounds: counted.number("rounds")?,
             length: counted.number("length")?,
@@ -136,8 +145,9 @@ impl Row {
 }
 
 /// The columns, with their widths.
-const COLUMNS: [(&str, usize); 13] = [
+const COLUMNS: [(&str, usize); 14] = [
     ("family", 31),
+    ("way", 6),
     ("positions", 9),
     ("rounds", 6),
     ("passes", 6),
@@ -166,6 +176,7 @@ impl fmt::Display for Row {
         let positions = self.positions as u64;
         let fields = [
             self.family.to_string(),
+            self.way.clone(),
             positions.to_string(),
             self.rounds.to_string(),
             self.passes.to_string(),
@@ -179,8 +190,8 @@ impl fmt::Display for Row {
             megabytes(library),
             megabytes(baseline),
         ];
-        write!(f, "| {:<31}", fields[0])?;
-        let numbers = fields.iter().zip(COLUMNS).skip(1);
+        write!(f, "| {:<31} | {:<6}", fields[0], fields[1])?;
+        let numbers = fields.iter().zip(COLUMNS).skip(2);
         numbers.into_iter().try_for_each(|(field, (_, width))| write!(f, " | {field:>width$}"))?;
         f.write_str(" |")
     }

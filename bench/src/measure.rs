@@ -15,6 +15,7 @@ use reference::baseline;
 use reference::compare::{Solution, ENTRY_LENGTH};
 use reference::rules::Rules;
 use reference::task;
+use reference::ways::Way;
 
 /// A game as the reference and as the library know it.
 #[derive(Clone, Copy)]
@@ -64,7 +65,9 @@ fn count(played: Played, bytes: &[u8]) {
     let mut table = vec![0; solution.entries.len() * ENTRY_LENGTH];
     let mut certificate = vec![0; solution.certificate.len()];
     solution.deliver(&mut table, &mut certificate);
-    let tried = pairs::tried(played.rules, &task::read(bytes).expect("read before"), &solution.entries);
+    let task = task::read(bytes).expect("read before");
+    let tried = pairs::tried(played.rules, &task, &solution.entries);
+    println!("way {}", Way::of(&task, table.len()).name());
     println!("positions {}", solution.entries.len());
     println!("rounds {}", solution.rounds);
     println!("length {}", certificate.len());

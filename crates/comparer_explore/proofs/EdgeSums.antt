@@ -21,7 +21,7 @@ use Rattle.game_index.proofs.EdgeRanges.{OfState, OfTag, state-range-edge, tag-
 use Rattle.table_keys.specs.Keys.{partnerBase, radixOf}
 use Rattle.table_keys.specs.declared.Radix.{Radix}
 use Rattle.comparer_explore_laws.specs.HalfRounds.{joinedBy}
-use Rattle.comparer_explore_laws.specs.PartnerSums.{rejoinedBy, wordOf}
+use Rattle.comparer_explore_laws.specs.PartnerSums.{wordOf}
 use Rattle.comparer_explore_laws.proofs.Undropped.{left-keeps, left-takes, right-keeps}
 use Rattle.comparer_explore.specs.HalfRounds.{Undropped, HalfOf, Summed, RangeSummed}
 use Rattle.comparer_explore.specs.declared.expand.Half.{Half}

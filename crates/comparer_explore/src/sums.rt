@@ -3,7 +3,7 @@
 use fra::Position;
 use table_keys::PARTNER_BASE;
 use table_keys::Radix;
-ghost use Prim.Native.Nat.{_^_, _≤_};
+ghost use Prim.Native.Nat.{_≤_};
 ghost use mathlib.Core.Path.{_≡_};
 ghost use Rattle.table_keys.specs.Keys.{Sized, Fits};
 ghost use Rattle.comparer_explore_laws.specs.PartnerSums.{placeOf};

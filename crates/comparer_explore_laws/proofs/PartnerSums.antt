@@ -1,7 +1,7 @@
 -- How the number of the partners changes in a round that drops no register: the register that is written counts its new partner
 -- and no longer its old one, and the pair of the right register is taken out. For any register count. Assumes nothing.
 use Prim.Native.Nat.{ℕ, zero, suc, _+_, _*_, _-_, _^_, _≤_, _<_}
-use mathlib.Core.Path.{_≡_, refl, sym, _∙_, ap, ap₂}
+use mathlib.Core.Path.{_≡_, refl, sym, _∙_, ap}
 use mathlib.Core.Bool.{Bool, true, false, cond}
 use mathlib.Core.List.{List, [], _∷_}
 use native.Mathlib.Nat.{le-trans, add-zero, zero-mul, add-mul, mul-assoc, mul-one, pow-zero, pow-succ'}
@@ -10,7 +10,7 @@ use native.Mathlib.Decide.{ℕ-discrete}
 use lib.ListN.{length, getD, set, take, drop, length-set, length-drop}
 use lib.Seq.{drop-cons, getD-set-same, getD-set-other}
 use lib.Dec.{eqb}
-use borrow.Author.Tests.{eqb-true, eq-eqb, ne-eqb}
+use borrow.Author.Tests.{eq-eqb, ne-eqb}
 use Rattle.fra.specs.Game.{rejoined}
 use Rattle.fra_laws.proofs.Registers.{rejoined-written, rejoined-taken, rejoined-kept}
 use Rattle.listing.specs.Digits.{value}

@@ -1,15 +1,14 @@
 -- Where neither edge drops a register, every pair is in both to sets after the round, so none is tested for. Assumes nothing.
 use Prim.Native.Nat.{ℕ, suc, _+_, _≤_, _<_}
-use mathlib.Core.Path.{_≡_, refl, sym, _∙_, ap, ap₂}
-use mathlib.Core.Logic.{⊎-elim}
+use mathlib.Core.Path.{_≡_, refl, _∙_, ap, ap₂}
 use mathlib.Core.Bool.{Bool, true, false, not, cond, _&&_}
 use mathlib.Core.List.{List, [], _∷_}
 use native.Mathlib.Nat.{add-zero}
 use native.Mathlib.Omega.{arith}
 use native.Mathlib.Decide.{decLe, ℕ-discrete}
-use lib.ListN.{length, getD}
+use lib.ListN.{getD}
 use lib.Dec.{eqb}
-use borrow.Author.Tests.{eqb-true, eq-eqb, not-true}
+use borrow.Author.Tests.{eq-eqb}
 use Rattle.fra.specs.Registers.{has, with}
 use Rattle.fra.specs.Model.{setOf, edgeOf, registerOf}
 use Rattle.fra.specs.Position.{rightPartner, legal}
@@ -19,7 +18,7 @@ use Rattle.fra.specs.declared.Edge.{Edge}
 use Rattle.fra.specs.declared.Model.{Model}
 use Rattle.fra.specs.declared.Position.{Position}
 use Rattle.fra.specs.declared.Side.the-variants.{Left, Right}
-use Rattle.fra_laws.proofs.Tests.{and-intro, or-cases, or-left, or-right, passes-unless, not-both}
+use Rattle.fra_laws.proofs.Tests.{and-intro, or-left, or-right, passes-unless}
 use Rattle.fra_laws.proofs.Lists.{any-none, count-intro}
 use Rattle.fra_laws.proofs.Registers.{has-positive, Matching, rejoined-written, rejoined-taken, rejoined-kept}
 use Rattle.fra_laws.proofs.Legal.{legal-facts}

@@ -1,8 +1,8 @@
 -- `comparer_explore::expand::key_by_sums` meets its contract: the states count what 8 to the power of the registers says, and the
 -- sums say what the partners count. No part of a key is more than the key. Assumes nothing.
 use Prim.Native.Nat.{ℕ, _+_, _*_, _-_, _≤_, _<_}
-use mathlib.Core.Path.{_≡_, refl, _∙_, sym, ap}
-use mathlib.Core.List.{List, []}
+use mathlib.Core.Path.{_≡_, _∙_, sym, ap}
+use mathlib.Core.List.{[]}
 use native.Mathlib.Nat.{mul-le-mul-left, one-le-pow}
 use native.Mathlib.Omega.{arith}
 use lib.ListN.{length, getD, take}

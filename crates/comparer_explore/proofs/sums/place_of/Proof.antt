@@ -1,6 +1,6 @@
 -- `comparer_explore::sums::place_of` meets its contract: a power of 8 is a power of 2. Assumes nothing.
-use Prim.Native.Nat.{ℕ, _*_, _%_, _^_}
-use mathlib.Core.Path.{_≡_, _∙_}
+use Prim.Native.Nat.{_*_, _^_}
+use mathlib.Core.Path.{_∙_}
 use native.Mathlib.Nat.{one-mul, mod-eq-of-lt}
 use native.Mathlib.Omega.{arith}
 use lib.Pow.{pow-lt}

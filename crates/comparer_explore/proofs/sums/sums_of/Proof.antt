@@ -11,7 +11,7 @@ use borrow.Author.Needs.{needs}
 use Rattle.listing.specs.Digits.{value}
 use Rattle.table_keys.specs.Keys.{partnerBase}
 use Rattle.table_keys.proofs.Keys.{used-length}
-use Rattle.comparer_explore_laws.specs.PartnerSums.{placeOf, wordOf, addedBy, AddsOf}
+use Rattle.comparer_explore_laws.specs.PartnerSums.{placeOf, wordOf, AddsOf}
 use Rattle.comparer_explore_laws.proofs.PartnerSums.{word-drop, word-more, adds-none, adds-more, added-most}
 use Rattle.comparer_explore.specs.Sums.{partnersIn}
 use Rattle.comparer_explore.proofs.PartnerDigits.{place-small, partner-at, partner-digit, word-small}

@@ -27,7 +27,9 @@ use Rattle.comparer_explore.specs.HalfRounds.{Undropped, HalfOf, Summed,
 use Rattle.comparer_explore.specs.declared.expand.Half.{Half}
 
 module _ {b : List ℕ} (index : Index b) (p : Position) (legal-p : legal 6 (taskIn b) p ≡ true) where
-  module _ (i : ℕ) (first : stateRange (modelIn b Left) (p .left) .first ≤ i) (end : i < stateRange (modelIn b Left) (p .left) .end) where
+  module _ (i : ℕ) (first : stateRange (modelIn b Left) (p .left) .first ≤ i)
+      (end : i < stateRange (modelIn b Left) (p .left) .end)
+    where
     own : OfState (modelIn b Left) (p .left) i
     own = state-range-edge (index-model index Left) (sized-in b Left) (p .left) i first end
 
@@ -51,16 +53,19 @@ module _ {b : List ℕ} (index : Index b) (p : Position) (legal-p : legal 6 (tas
       → RangeSummed b x half (tagRange (modelIn b Right) (p .right) tag)
   range-summed {x} {l} {half} tag h = record { places = place; sums = summed }
     where
-      reply : (j : ℕ) → tagRange (modelIn b Right) (p .right) tag .first ≤ j → j < tagRange (modelIn b Right) (p .right) tag .end
+      reply : (j : ℕ) → tagRange (modelIn b Right) (p .right) tag .first ≤ j
+          → j < tagRange (modelIn b Right) (p .right) tag .end
           → OfTag (modelIn b Right) (p .right) tag j
       reply j first end = tag-range-edge (index-model index Right) (sized-in b Right) (p .right) tag j first end
 
-      place : (j : ℕ) → tagRange (modelIn b Right) (p .right) tag .first ≤ j → j < tagRange (modelIn b Right) (p .right) tag .end
+      place : (j : ℕ) → tagRange (modelIn b Right) (p .right) tag .first ≤ j
+          → j < tagRange (modelIn b Right) (p .right) tag .end
           → j < edgePlaces
       place j first end =
           omega (arith, reply j first end .exists, index-model index Right .valid .edge-places, sized-in b Right .edges)
 
-      summed : (j : ℕ) → tagRange (modelIn b Right) (p .right) tag .first ≤ j → j < tagRange (modelIn b Right) (p .right) tag .end
+      summed : (j : ℕ) → tagRange (modelIn b Right) (p .right) tag .first ≤ j
+          → j < tagRange (modelIn b Right) (p .right) tag .end
           → half .keeps ≡ true → drops (modelIn b Right) (edgeOf (modelIn b Right) j) ≡ false
           → Summed x half (transitionOf (modelIn b Right) j .target)
       summed j first end keeps d =

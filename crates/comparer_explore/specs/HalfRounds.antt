@@ -60,5 +60,6 @@ pub record Summed (x : Radix) (half : Half) (r : Target) : Type 0 where
 -- so for the right edges of a range that drop no register
 pub record RangeSummed (b : List ℕ) (x : Radix) (half : Half) (edges : Range) : Type 0 where
   pub places : (j : ℕ) → edges .first ≤ j → j < edges .end → j < edgePlaces
-  pub sums : (j : ℕ) → edges .first ≤ j → j < edges .end → half .keeps ≡ true → drops (modelIn b Right) (edgeOf (modelIn b Right) j) ≡ false
+  pub sums : (j : ℕ) → edges .first ≤ j → j < edges .end → half .keeps ≡ true
+      → drops (modelIn b Right) (edgeOf (modelIn b Right) j) ≡ false
       → Summed x half (transitionOf (modelIn b Right) j .target)

@@ -57,8 +57,8 @@ pub fn visit(table: &mut [u8], n: usize, key: u32, keys: u32) -> Explored
 }
 
 // What a left edge leaves of the matching, whichever right edge takes the same number: the partners of the registers in its to
-// set, and the register that holds the number taken, or 0 where that set has it not. Where it drops no register, also the numbers
-// that a key is made of. It is made once for each left edge.
+// set, and the register that holds the number taken, or 0 where that set has it not. Where it drops no register, also the
+// numbers that a key is made of. It is made once for each left edge.
 struct Half {
     partners: [u8; 6],
     register: u8,
@@ -155,7 +155,8 @@ fn visit_pair(
     keeps: bool,
 ) -> Explored
     requires { ⌜ Stored (source .keys) n (now table) × Keyed source ⌝ }
-    requires { ⌜ Halves (source .position) (left .target) half × (compatible (source .position) Left (left .kind) (right .kind) ≡ true) ⌝ }
+    requires { ⌜ Halves (source .position) (left .target) half
+        × (compatible (source .position) Left (left .kind) (right .kind) ≡ true) ⌝ }
     requires { ⌜ (keeps ≡ true → Summed (source .radix) half (right .target)) ⌝ }
     requires { ⌜ PairFits (source .radix) (source .room) (source .position) left right ⌝ }
     ensures { λ r. ⌜ Visited (source .keys) (PairKey (source .radix) (source .room) (source .position) left right) n

@@ -139,7 +139,8 @@ adds-more l adds i n e h a =
         rw (d, getD-set-same adds x (getD adds x 0 + x * placeOf n) 0 (omega (arith, a .long)), eq-eqb x x refl, last)
         (omega (arith, a .each x h))
     step b k (no d) =
-        rw (getD-set-other adds x b (getD adds x 0 + x * placeOf n) 0 d, ne-eqb x b (λ s. d (sym s))) (omega (arith, a .each b k))
+        rw (getD-set-other adds x b (getD adds x 0 + x * placeOf n) 0 d, ne-eqb x b (λ s. d (sym s)))
+        (omega (arith, a .each b k))
 
 -- a pair counts no more than the pairs of its right register
 pub added-least : (k n : ℕ) (l : List ℕ) → n + suc k ≡ length l → getD l k 0 * placeOf n ≤ addedBy (getD l k 0) l

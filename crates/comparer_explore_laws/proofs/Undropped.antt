@@ -31,7 +31,9 @@ use Rattle.comparer_explore_laws.specs.HalfRounds.{inSet, keptAt, keptBy
 use Rattle.comparer_explore_laws.specs.PartnerSums.{rejoinedBy}
 
 -- a register held before the round, or taken in it, is held after it
-module _ {r : ℕ} {m : Model} (v : ValidModel r m) (k : ℕ) (exists : k < m .«edge_count») (keeps : drops m (edgeOf m k) ≡ false) where
+module _ {r : ℕ} {m : Model} (v : ValidModel r m) (k : ℕ) (exists : k < m .«edge_count»)
+    (keeps : drops m (edgeOf m k) ≡ false)
+  where
   abbrev e : Edge
   e = edgeOf m k
 

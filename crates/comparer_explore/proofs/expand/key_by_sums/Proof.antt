@@ -1,5 +1,5 @@
--- `comparer_explore::expand::key_by_sums` meets its contract: the states count what 8 to the power of the registers says, and the
--- sums say what the partners count. No part of a key is more than the key. Assumes nothing.
+-- `comparer_explore::expand::key_by_sums` meets its contract: the states count what 8 to the power of the registers says,
+-- and the sums say what the partners count. No part of a key is more than the key. Assumes nothing.
 use Prim.Native.Nat.{ℕ, _+_, _*_, _-_, _≤_, _<_}
 use mathlib.Core.Path.{_≡_, _∙_, sym, ap}
 use mathlib.Core.List.{[]}
@@ -24,7 +24,8 @@ module _ (start : tie.Start) where
   abbrev word : ℕ
   word =
       let a = start .args in
-      wordOf (take (a .radix .registers) (joinedBy (a .right .set) (a .half .register) (a .right .register) 1 (a .half .partners)))
+      wordOf
+      (take (a .radix .registers) (joinedBy (a .right .set) (a .half .register) (a .right .register) 1 (a .half .partners)))
 
   abbrev states : ℕ
   states = start .args .left * start .args .radix .right + start .args .right .state
@@ -53,7 +54,8 @@ module _ (start : tie.Start) where
   unfolding after joinedTo
   front =
       let a = start .args in
-      let used = take (a .radix .registers) (joinedBy (a .right .set) (a .half .register) (a .right .register) 1 (a .half .partners)) in
+      let used =
+      take (a .radix .registers) (joinedBy (a .right .set) (a .half .register) (a .right .register) 1 (a .half .partners)) in
       let long : length used ≡ a .radix .registers = used-length (start .pre .0 .0) (start .pre .0 .1) in
       sym (value-front partnerBase states used ∙ ap (λ (n : ℕ). states * placeOf n + word) long)
 
@@ -63,7 +65,9 @@ module _ (start : tie.Start) where
       key-part-small (start .pre .0 .0) (start .pre .0 .1) (states * places + word) [] front
 
   states-small : states < keyLimit
-  states-small = let once : states * 1 ≤ states * places = mul-le-mul-left states (one-le-pow _ partnerBase (omega arith)) in omega (arith, front-small)
+  states-small =
+      let once : states * 1 ≤ states * places = mul-le-mul-left states (one-le-pow _ partnerBase (omega arith)) in
+      omega (arith, front-small)
 
   summed-small : summed < keyLimit
   summed-small = omega (arith, sum, few, start .pre .1 .small)
@@ -73,7 +77,8 @@ module _ (start : tie.Start) where
   unfolding after keyOf joinedTo
   whole = ap (λ (n : ℕ). n * sizesOf (start .args .radix) + (start .args .size - start .args .radix .least)) front
 
-  whole-small : (states * places + word) * sizesOf (start .args .radix) + (start .args .size - start .args .radix .least) < keyLimit
+  whole-small : (states * places + word) * sizesOf (start .args .radix) + (start .args .size - start .args .radix .least)
+      < keyLimit
   whole-small = rw (whole) (key-small (start .pre .0 .0) (start .pre .0 .1))
 
 mul-states : tie.Need-mul-states

@@ -1,5 +1,6 @@
 -- `comparer_explore::expand::left_half` meets its contract: an edge that drops nothing leaves all partners. Else the loop's
--- invariant: the partners are those that the left edge leaves, up to place `i`. The measure is how many places are left. Assumes nothing.
+-- invariant: the partners are those that the left edge leaves, up to place `i`. The measure is how many places are
+-- left. Assumes nothing.
 use Prim.Native.Nat.{_*_, _-_, _≤_, _<_}
 use mathlib.Core.Path.{_≡_, refl, sym, _∙_}
 use mathlib.Core.Bool.{false≢true}

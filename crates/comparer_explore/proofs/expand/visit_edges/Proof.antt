@@ -72,7 +72,8 @@ visit-pair-requires c κs =
     ((inv .visited .grows .stored, start .pre .0 .1), ((start .pre .1 .1 .0 .0, joined), (
       λ e.
           rw (read .transition-at .ensures)
-          (sums (and-left (half .keeps) (not kept) e) (sym (asked .drops-at .ensures) ∙ not-true kept (and-right (half .keeps) (not kept) e))),
+          (sums (and-left (half .keeps) (not kept) e)
+          (sym (asked .drops-at .ensures) ∙ not-true kept (and-right (half .keeps) (not kept) e))),
       rw (read .transition-at .ensures) fits,
     )))
 

@@ -33,7 +33,8 @@ use Rattle.comparer_explore.proofs.expand.visit_successors.Statement.{s
 use Rattle.comparer_explore.proofs.expand.visit_successors.Tie as tie
 
 abbrev Inv-loop : tie.InvT-loop
-Inv-loop table₀ n index source p sums end m₀ k₀ table m k = Passed (source .keys) k₀ end (EdgeKey index (source .position)) k n table₀ m table
+Inv-loop table₀ n index source p sums end m₀ k₀ table m k =
+    Passed (source .keys) k₀ end (EdgeKey index (source .position)) k n table₀ m table
 
 abbrev μ-loop : tie.MeasureT-loop
 μ-loop table₀ n index source p sums end m₀ k₀ table m k = end - k
@@ -58,7 +59,8 @@ module _ (start : tie.Start Inv-loop μ-loop) where
   fits : Fits (s .radix) (s .position)
   fits =
       subst (λ (x : Radix). Fits x (s .position)) (sym radix-is)
-      (legal-fits (taskIn (start .args .index .now)) (s .position) (start .pre .1 .0 .indexable .valid) (expandable .legal) (expandable .least))
+      (legal-fits (taskIn (start .args .index .now)) (s .position) (start .pre .1 .0 .indexable .valid)
+      (expandable .legal) (expandable .least))
 
 -- what is wanted of the right edges that are visited is what is wanted of the left edge
 visited : (c : tie.After-visit-edges Inv-loop μ-loop)
@@ -107,7 +109,8 @@ module _ (c : tie.After-tagged Inv-loop μ-loop) where
       → Undropped (s begun .radix) (s begun .position) (c .before .transition-at .result .target)
   undropped keeps =
       subst (λ (x : Radix). Undropped x (s begun .position) (c .before .transition-at .result .target)) (sym (radix-is begun))
-      (subst (λ (e : Transition). Undropped (radixOf (taskIn b)) (s begun .position) (e .target)) (sym (c .before .transition-at .ensures))
+      (subst (λ (e : Transition). Undropped (radixOf (taskIn b)) (s begun .position) (e .target))
+      (sym (c .before .transition-at .ensures))
       (left-undropped (begun .pre .1 .0) (s begun .position) (expandable begun .legal) (turn .before .loop .k) first end keeps))
 
 drops-at-requires : tie.Need-drops-at-requires Inv-loop μ-loop
@@ -135,11 +138,15 @@ visit-edges-requires c κs =
     let tags = tagged (b others) (s start .position) k in
     let fit =
     subst (λ (x : Radix). RangeFits (b others) x (s start .room) (s start .position) left tags) (sym (radix-is start))
-    (subst (λ (r : Bool). RangeFits (b others) (radixOf (taskIn (b others))) r (s start .position) left tags) (sym (room-is start))
+    (subst (λ (r : Bool). RangeFits (b others) (radixOf (taskIn (b others))) r (s start .position) left tags)
+    (sym (room-is start))
     (edges-fit (start .pre .1 .0) (s start .position) (e .legal) (e .least) k (first others) (end others))) in
-    let sums = range-summed (start .pre .1 .0) (s start .position) (e .legal) (read .before .edge-at .result .tag) (half .left-half .ensures) in
-    ((inv .visited .grows .stored, keyed start), (start .pre .1 .0, ((half .left-half .ensures .halves, rw (others .tagged .ensures) sums),
-    rw (others .tagged .ensures, read .transition-at .ensures, read .before .edge-at .ensures) fit)))
+    let sums =
+    range-summed (start .pre .1 .0) (s start .position) (e .legal) (read .before .edge-at .result .tag) (half .left-half .ensures) in
+    ((inv .visited .grows .stored, keyed start), (start .pre .1 .0, (
+      (half .left-half .ensures .halves, rw (others .tagged .ensures) sums),
+      rw (others .tagged .ensures, read .transition-at .ensures, read .before .edge-at .ensures) fit,
+    )))
 
 same-length : tie.Need-same-length Inv-loop μ-loop
 same-length c =

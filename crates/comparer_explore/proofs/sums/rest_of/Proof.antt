@@ -87,10 +87,11 @@ returns c =
       sum = λ b h.
           let sum =
           rw own at
-          (rest-sum l (a .sums .adds) (start .pre .1 .0 .adds) (a .a) (at start) (others start) (omega (arith, start .pre .1 .1))
+          (rest-sum l (a .sums .adds) (start .pre .1 .0 .adds) (a .a) (at start) (others start)
+          (omega (arith, start .pre .1 .1))
           (place start) (rw own (digit start)) b h) in
-          rw (c .before .before .place-of .ensures, rejoined-take (a .a) b 1 (a .radix .registers) (a .p .partners), start .pre .1 .0 .word)
-          sum;
+          let taken = rejoined-take (a .a) b 1 (a .radix .registers) (a .p .partners) in
+          rw (c .before .before .place-of .ensures, taken, start .pre .1 .0 .word) sum;
     }
 
 pub rest-of-spec : {M : Type 1} → statement M

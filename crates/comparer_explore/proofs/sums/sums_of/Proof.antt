@@ -1,5 +1,5 @@
--- `comparer_explore::sums::sums_of` meets its contract. The loop's invariant: the numbers are those of the partners from register
--- `i` on. The measure is how many registers are left. Assumes nothing.
+-- `comparer_explore::sums::sums_of` meets its contract. The loop's invariant: the numbers are those of the partners from
+-- register `i` on. The measure is how many registers are left. Assumes nothing.
 use Prim.Native.Nat.{ℕ, zero, suc, _+_, _*_, _-_, _≤_, _<_}
 use mathlib.Core.Path.{_≡_, refl, _∙_, sym, ap, subst}
 use mathlib.Core.List.{List, []}
@@ -114,13 +114,16 @@ module _ (c : tie.In-loop Inv-loop μ-loop) where
   added : getD (c .before .loop .adds) x 0 + x * c .before .loop .place ≤ wordOf (drop i l)
   added =
       subst (λ (y : ℕ). getD (c .before .loop .adds) y 0 + y * c .before .loop .place ≤ wordOf (drop i l)) own
-      (from-added (c .before .loop .i) (c .before .loop .inv) (c .loop-test .taken) long (subst (λ (y : ℕ). y < partnerBase) (sym own) digit))
+      (from-added (c .before .loop .i) (c .before .loop .inv) (c .loop-test .taken) long
+      (subst (λ (y : ℕ). y < partnerBase) (sym own) digit))
 
   adds : AddsOf (drop i l) (set (c .before .loop .adds) x (getD (c .before .loop .adds) x 0 + x * c .before .loop .place))
   adds =
       subst
-      (λ (y : ℕ). AddsOf (drop i l) (set (c .before .loop .adds) y (getD (c .before .loop .adds) y 0 + y * c .before .loop .place))) own
-      (from-adds (c .before .loop .i) (c .before .loop .inv) (c .loop-test .taken) long (subst (λ (y : ℕ). y < partnerBase) (sym own) digit))
+      (λ (y : ℕ).
+      AddsOf (drop i l) (set (c .before .loop .adds) y (getD (c .before .loop .adds) y 0 + y * c .before .loop .place))) own
+      (from-adds (c .before .loop .i) (c .before .loop .inv) (c .loop-test .taken) long
+      (subst (λ (y : ℕ). y < partnerBase) (sym own) digit))
 
   small : wordOf (drop i l) < 262144
   small = omega (arith, word-drop i l, word-small (start .pre .0) (start .pre .1))
@@ -151,7 +154,8 @@ array-write-adds : tie.Need-array-write-adds Inv-loop μ-loop
 array-write-adds c = digit c
 
 -- what the register before counts
-place-next : (c : tie.In-loop Inv-loop μ-loop) → c .before .loop .place * partnerBase ≡ placeOf (start c .args .radix .registers - i c)
+place-next : (c : tie.In-loop Inv-loop μ-loop)
+    → c .before .loop .place * partnerBase ≡ placeOf (start c .args .radix .registers - i c)
 place-next c = from-place (c .before .loop .i) (c .before .loop .inv) (c .loop-test .taken)
 
 mul-place : tie.Need-mul-place Inv-loop μ-loop

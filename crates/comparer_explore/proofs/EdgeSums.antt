@@ -30,24 +30,24 @@ module _ {b : List ℕ} (index : Index b) (p : Position) (legal-p : legal 6 (tas
   module _ (i : ℕ) (first : stateRange (modelIn b Left) (p .left) .first ≤ i)
       (end : i < stateRange (modelIn b Left) (p .left) .end)
     where
-    own : OfState (modelIn b Left) (p .left) i
-    own = state-range-edge (index-model index Left) (sized-in b Left) (p .left) i first end
+      own : OfState (modelIn b Left) (p .left) i
+      own = state-range-edge (index-model index Left) (sized-in b Left) (p .left) i first end
 
-    -- there is a place for a left edge of its left state
-    pub left-place : i < edgePlaces
-    left-place = omega (arith, own .exists, index-model index Left .valid .edge-places, sized-in b Left .edges)
+      -- there is a place for a left edge of its left state
+      pub left-place : i < edgePlaces
+      left-place = omega (arith, own .exists, index-model index Left .valid .edge-places, sized-in b Left .edges)
 
-    pub left-undropped : drops (modelIn b Left) (edgeOf (modelIn b Left) i) ≡ false
-        → Undropped (radixOf (taskIn b)) p (transitionOf (modelIn b Left) i .target)
-    unfolding taskIn
-    left-undropped keeps =
-        let valid = index-model index Left .valid .edges i (own .exists) in
-        record {
-          partners = left-keeps index p legal-p i (own .exists) (own .starts) keeps;
-          register = left-takes index p legal-p i (own .exists) (own .starts) keeps;
-          least = valid .least;
-          greatest = valid .greatest;
-        }
+      pub left-undropped : drops (modelIn b Left) (edgeOf (modelIn b Left) i) ≡ false
+          → Undropped (radixOf (taskIn b)) p (transitionOf (modelIn b Left) i .target)
+      unfolding taskIn
+      left-undropped keeps =
+          let valid = index-model index Left .valid .edges i (own .exists) in
+          record {
+            partners = left-keeps index p legal-p i (own .exists) (own .starts) keeps;
+            register = left-takes index p legal-p i (own .exists) (own .starts) keeps;
+            least = valid .least;
+            greatest = valid .greatest;
+          }
 
   pub range-summed : {x : Radix} {l : Target} {half : Half} (tag : ℕ) → HalfOf x p l half
       → RangeSummed b x half (tagRange (modelIn b Right) (p .right) tag)

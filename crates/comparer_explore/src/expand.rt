@@ -209,7 +209,8 @@ fn visit_edges(
         let other_kind = right.kind;
         if joint(&partners, kind, other_kind) {
             let keeps = half.keeps & !game_index::drops_at(index, Side::Right, k);
-            let Explored::Count(more) = visit_pair(table, m, source, half, left, right, keeps) else {
+            let Explored::Count(more) = visit_pair(table, m, source, half, left, right, keeps)
+            else {
                 return Explored::TooMany;
             };
             m = more;
@@ -237,7 +238,13 @@ pub fn visit_successors(table: &mut [u8], n: usize, index: &[u8; SIZE], source: 
         let e = game_index::edge_at(index, Side::Left, k);
         let left = game_index::transition_at(index, Side::Left, k);
         let others = game_index::tagged(index, Side::Right, p.right, e.tag);
-        let half = left_half(source.radix, p, sums, left.target, game_index::drops_at(index, Side::Left, k));
+        let half = left_half(
+            source.radix,
+            p,
+            sums,
+            left.target,
+            game_index::drops_at(index, Side::Left, k),
+        );
         let Explored::Count(more) = visit_edges(table, m, source, half, left, index, others) else {
             return Explored::TooMany;
         };

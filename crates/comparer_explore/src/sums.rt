@@ -27,7 +27,11 @@ pub struct Rest {
 }
 
 impl Rest {
-    pub const NONE: Rest = Rest { word: 0, place: 0, adds: [0; 8] };
+    pub const NONE: Rest = Rest {
+        word: 0,
+        place: 0,
+        adds: [0; 8],
+    };
 }
 
 // What a partner counts that so many others follow.

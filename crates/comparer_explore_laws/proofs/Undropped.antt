@@ -34,32 +34,32 @@ use Rattle.comparer_explore_laws.specs.PartnerSums.{rejoinedBy}
 module _ {r : ℕ} {m : Model} (v : ValidModel r m) (k : ℕ) (exists : k < m .«edge_count»)
     (keeps : drops m (edgeOf m k) ≡ false)
   where
-  abbrev e : Edge
-  e = edgeOf m k
+    abbrev e : Edge
+    e = edgeOf m k
 
-  abbrev register : ℕ
-  register = registerOf (e .kind)
+    abbrev register : ℕ
+    register = registerOf (e .kind)
 
-  held-after : (i : ℕ) → 1 ≤ i → i ≤ m .registers → with (setOf m (e .from)) register i ≡ true → has (setOf m (e .to)) i ≡ true
-  unfolding drops
-  held-after i some few h =
-      passes-unless (has (setOf m (e .to)) i)
-      (λ out.
-      any-none (λ j. with (setOf m (e .from)) register j && not (has (setOf m (e .to)) j)) keeps
-      (count-intro 1 (m .registers) i some (omega arith))
-      (and-intro (with (setOf m (e .from)) register i) _ h (ap not out)))
+    held-after : (i : ℕ) → 1 ≤ i → i ≤ m .registers → with (setOf m (e .from)) register i ≡ true → has (setOf m (e .to)) i ≡ true
+    unfolding drops
+    held-after i some few h =
+        passes-unless (has (setOf m (e .to)) i)
+        (λ out.
+        any-none (λ j. with (setOf m (e .from)) register j && not (has (setOf m (e .to)) j)) keeps
+        (count-intro 1 (m .registers) i some (omega arith))
+        (and-intro (with (setOf m (e .from)) register i) _ h (ap not out)))
 
-  pub taken-kept : has (setOf m (e .to)) register ≡ true
-  unfolding with
-  taken-kept =
-      held-after register (v .edges k exists .least) (v .edges k exists .greatest)
-      (or-right (has (setOf m (e .from)) register) (eqb register register) (eq-eqb register register refl))
+    pub taken-kept : has (setOf m (e .to)) register ≡ true
+    unfolding with
+    taken-kept =
+        held-after register (v .edges k exists .least) (v .edges k exists .greatest)
+        (or-right (has (setOf m (e .from)) register) (eqb register register) (eq-eqb register register refl))
 
-  pub held-kept : (i : ℕ) → has (setOf m (e .from)) i ≡ true → has (setOf m (e .to)) i ≡ true
-  unfolding with
-  held-kept i h =
-      held-after i (has-positive (setOf m (e .from)) i h) (v .states (e .from) (v .edges k exists .from) .existing i h)
-      (or-left (has (setOf m (e .from)) i) (eqb register i) h)
+    pub held-kept : (i : ℕ) → has (setOf m (e .from)) i ≡ true → has (setOf m (e .to)) i ≡ true
+    unfolding with
+    held-kept i h =
+        held-after i (has-positive (setOf m (e .from)) i h) (v .states (e .from) (v .edges k exists .from) .existing i h)
+        (or-left (has (setOf m (e .from)) i) (eqb register i) h)
 
 -- ── The two halves ──
 

@@ -146,8 +146,8 @@ add-result c =
     let made = c .before in
     let start = made .before .before .before .before .before .before .before .before .before .before in
     let h : (states start * made .before .place-of .result + (summed start - added start)) * made .sizes .result
-        + (start .args .size - start .args .radix .least)
-        < keyLimit =
+    + (start .args .size - start .args .radix .least)
+    < keyLimit =
     rw (made .before .place-of .ensures, joined start, made .sizes .ensures) (whole-small start) in
     search (needs, h)
 

@@ -68,14 +68,19 @@ visit-pair-requires c κs =
     let inv = at-loop .loop .inv in
     let fits = start .pre .1 .1 .1 (at-loop .loop .k) (inv .from) (turn .loop-test .taken) in
     let sums = start .pre .1 .1 .0 .1 .sums (at-loop .loop .k) (inv .from) (turn .loop-test .taken) in
-    let kept = asked .drops-at .result in
-    ((inv .visited .grows .stored, start .pre .0 .1), ((start .pre .1 .1 .0 .0, joined), (
-      λ e.
-          rw (read .transition-at .ensures)
-          (sums (and-left (half .keeps) (not kept) e)
-          (sym (asked .drops-at .ensures) ∙ not-true kept (and-right (half .keeps) (not kept) e))),
-      rw (read .transition-at .ensures) fits,
-    )))
+    let kept = asked .drops-at .result in (
+      (inv .visited .grows .stored, start .pre .0 .1),
+      (
+        (start .pre .1 .1 .0 .0, joined),
+        (
+          λ e.
+              rw (read .transition-at .ensures)
+              (sums (and-left (half .keeps) (not kept) e)
+              (sym (asked .drops-at .ensures) ∙ not-true kept (and-right (half .keeps) (not kept) e))),
+          rw (read .transition-at .ensures) fits,
+        ),
+      ),
+    )
 
 same-length : tie.Need-same-length Inv-loop μ-loop
 same-length c =

@@ -122,11 +122,14 @@ key-after-requires-2 c κs =
     let asked = c .before in
     let start = begun (call asked) in
     let s = a (call asked) in
-    let seen = sym (tried asked) ∙ c .if1 .taken in
-    ((start .pre .0 .1 .sized,
-    half-fits start (s .position .history)
-    (seen-size (s .radix) (s .room) (s .position) (start .args .left) (start .args .right) seen)),
-    start .pre .1 .1 .0)
+    let seen = sym (tried asked) ∙ c .if1 .taken in (
+      (
+        start .pre .0 .1 .sized,
+        half-fits start (s .position .history)
+            (seen-size (s .radix) (s .room) (s .position) (start .args .left) (start .args .right) seen),
+      ),
+      start .pre .1 .1 .0,
+    )
 
 visit-requires-2 : tie.Need-visit-requires-2
 visit-requires-2 c κs =

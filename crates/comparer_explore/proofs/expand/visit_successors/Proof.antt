@@ -115,9 +115,10 @@ module _ (c : tie.After-tagged Inv-loop μ-loop) where
 
 drops-at-requires : tie.Need-drops-at-requires Inv-loop μ-loop
 drops-at-requires c κs =
-    let start = begun c in
-    (start .pre .1 .0,
-    left-place (start .pre .1 .0) (s start .position) (expandable start .legal) (turn c .before .loop .k) (first c) (end c))
+    let start = begun c in (
+      start .pre .1 .0,
+      left-place (start .pre .1 .0) (s start .position) (expandable start .legal) (turn c .before .loop .k) (first c) (end c),
+    )
 
 left-half-requires : tie.Need-left-half-requires Inv-loop μ-loop
 left-half-requires c κs =
@@ -142,11 +143,16 @@ visit-edges-requires c κs =
     (sym (room-is start))
     (edges-fit (start .pre .1 .0) (s start .position) (e .legal) (e .least) k (first others) (end others))) in
     let sums =
-    range-summed (start .pre .1 .0) (s start .position) (e .legal) (read .before .edge-at .result .tag) (half .left-half .ensures) in
-    ((inv .visited .grows .stored, keyed start), (start .pre .1 .0, (
-      (half .left-half .ensures .halves, rw (others .tagged .ensures) sums),
-      rw (others .tagged .ensures, read .transition-at .ensures, read .before .edge-at .ensures) fit,
-    )))
+    range-summed (start .pre .1 .0) (s start .position) (e .legal) (read .before .edge-at .result .tag) (half .left-half .ensures) in (
+      (inv .visited .grows .stored, keyed start),
+      (
+        start .pre .1 .0,
+        (
+          (half .left-half .ensures .halves, rw (others .tagged .ensures) sums),
+          rw (others .tagged .ensures, read .transition-at .ensures, read .before .edge-at .ensures) fit,
+        ),
+      ),
+    )
 
 same-length : tie.Need-same-length Inv-loop μ-loop
 same-length c =

@@ -1,8 +1,7 @@
--- Edges of a model that has an index rise by their codes, so those of one state, of one state and tag, and of some kinds among
--- these are ranges.
+-- Edges of a model that has an index rise by their codes, so those of one state, and of one state and tag, are ranges.
 -- Assumes nothing.
-use Prim.Native.Nat.{ℕ, zero, suc, _+_, _≤_, _<_}
-use mathlib.Core.Path.{_≡_, sym}
+use Prim.Native.Nat.{ℕ, zero, suc, _-_, _≤_, _<_}
+use mathlib.Core.Path.{_≡_, sym, subst}
 use mathlib.Core.Logic.{_⊎_, inl, inr}
 use mathlib.Core.Bool.{Bool, true, _&&_, and-false}
 use mathlib.Core.List.{List, _∷_}
@@ -10,18 +9,19 @@ use native.Mathlib.Omega.{arith}
 use native.Mathlib.Decide.{decLt}
 use lib.Dec.{ltb, eqb}
 use borrow.Author.Tests.{ltb-true, eqb-true, lt-ltb, le-ltb, eq-eqb}
-use Rattle.fra.specs.Lists.{below, count}
+use Rattle.fra.specs.Lists.{_∈_, below, keep, count}
 use Rattle.fra.specs.Model.{edgeOf, edgeBytes, kindNumber}
 use Rattle.fra.specs.declared.EdgeKind.{EdgeKind}
 use Rattle.fra.specs.declared.EdgeKind.the-variants.{Known, LocallyFresh, GloballyFresh}
 use Rattle.fra.specs.declared.Edge.{Edge}
 use Rattle.fra.specs.declared.Model.{Model}
-use Rattle.fra_laws.proofs.Tests.{and-left, and-right, or-cases}
+use Rattle.fra_laws.proofs.Tests.{and-left, and-right, and-intro, or-cases}
+use Rattle.fra_laws.proofs.Lists.{keep-elim, count-intro, count-elim, keep-intro}
 use Rattle.game_index.specs.Layout.{statePlaces, tagPlaces, kindPlaces, codes}
-use Rattle.game_index.specs.Ranges.{edgesOf, codeOf, edgeCode, within, stateRange, firstOf, kindRange, tagRange}
+use Rattle.game_index.specs.Ranges.{edgesOf, taggedOf, codeOf, edgeCode, within, stateRange, tagRange}
 use Rattle.game_index.specs.Writing.{IndexableModel, Sized}
 use Rattle.game_index.specs.declared.Range.{Range}
-use Rattle.game_index.proofs.Ranges.{keep-none, lower-inside, lower-between, keep-lower}
+use Rattle.game_index.proofs.Ranges.{keep-none, keep-lower}
 
 -- ── The order of strings, from their first bytes ──
 
@@ -44,7 +44,7 @@ module _ (x y : ℕ) (xs ys : List ℕ) (h : below (x ∷ xs) (y ∷ ys) ≡ tru
 abbrev pub codeAt : Model → ℕ → ℕ
 codeAt m k = edgeCode (edgeOf m k)
 
-pub kind-bound : (kind : EdgeKind) → kindNumber kind < kindPlaces
+kind-bound : (kind : EdgeKind) → kindNumber kind < kindPlaces
 kind-bound (Known i) = omega arith
 kind-bound (LocallyFresh i) = omega arith
 kind-bound (GloballyFresh i) = omega arith
@@ -84,7 +84,7 @@ module _ {m : Model} (v : IndexableModel m) where
           let more = code-below (edgeOf m k) (edgeOf m (suc k)) (v .tags k (omega arith)) (v .valid .rising k q) in
           omega (arith, rest (omega arith))
 
--- ── Edges of a state, those which have a tag, and those of some kinds ──
+-- ── Edges of a state, and those which have a tag ──
 
 pub record OfState (m : Model) (q k : ℕ) : Type 0 where
   pub exists : k < m .«edge_count»
@@ -95,109 +95,117 @@ pub record OfTag (m : Model) (q tag k : ℕ) : Type 0 where
   pub starts : edgeOf m k .from ≡ q
   pub tagged : edgeOf m k .tag ≡ tag
 
--- and its kind is one of those from n on, below o
-pub record OfKinds (m : Model) (q tag n o k : ℕ) : Type 0 where
-  pub of-tag : OfTag m q tag k
-  pub least : n ≤ kindNumber (edgeOf m k .kind)
-  pub below : kindNumber (edgeOf m k .kind) < o
-
--- ── Their ranges ──
-
-abbrev pub Inside : Range → ℕ → Type 0
-Inside r k = (r .first ≤ k) × (k < r .end)
-
 abbrev startsIn : Model → ℕ → ℕ → Bool
 startsIn m q k = eqb (edgeOf m k .from) q
 
+abbrev hasTag : Model → ℕ → ℕ → Bool
+hasTag m tag k = eqb (edgeOf m k .tag) tag
+
+of-state : (m : Model) (q k : ℕ) → k < m .«edge_count» → startsIn m q k ≡ true → OfState m q k
+of-state m q k b t = record { exists = b; starts = eqb-true (edgeOf m k .from) q t }
+
+of-tag : (m : Model) (q tag k : ℕ) → k < m .«edge_count» → (startsIn m q k && hasTag m tag k) ≡ true → OfTag m q tag k
+of-tag m q tag k b t =
+    record {
+      exists = b;
+      starts = of-state m q k b (and-left (startsIn m q k) (hasTag m tag k) t) .starts;
+      tagged = eqb-true (edgeOf m k .tag) tag (and-right (startsIn m q k) (hasTag m tag k) t);
+    }
+
+-- ── Their ranges ──
+
+-- the numbers of a range pass the test that keeps them
+range-passes : (test : ℕ → Bool) (n : ℕ) (r : Range) → within r ≡ keep test (count 0 n) → (k : ℕ) → r .first ≤ k → k < r .end
+    → (k < n) × (test k ≡ true)
+range-passes test n r e k i b =
+    let (c, t) = keep-elim test k (count 0 n)
+    (subst (λ (l : List ℕ). k ∈ l) e (count-intro (r .first) (r .end - r .first) k i (omega arith))) in
+    (omega (arith, count-elim 0 n k c .1), t)
+
 module _ {m : Model} (v : IndexableModel m) (sized : Sized m) where
-  -- the codes of a state's edges are those from its least code on, below that of the next state
-  state-codes : (q k : ℕ) → OfState m q k → (codeOf q 0 ≤ codeAt m k) × (codeAt m k < codeOf (suc q) 0)
-  state-codes q k e =
-      let few = v .tags k (e .exists) in
-      let kind = kind-bound (edgeOf m k .kind) in
-      let starts = e .starts in
-      (omega arith, omega arith)
-
-  code-state : (q k : ℕ) → k < m .«edge_count» → codeOf q 0 ≤ codeAt m k → codeAt m k < codeOf (suc q) 0 → edgeOf m k .from ≡ q
-  code-state q k b least below = omega (arith, v .tags k b, kind-bound (edgeOf m k .kind))
-
-  pub state-range : (q : ℕ) → within (stateRange m q) ≡ edgesOf m q
-  unfolding stateRange edgesOf count
-  state-range q = step (decLt q statePlaces)
-    where
-      step : Dec (q < statePlaces) → within (stateRange m q) ≡ edgesOf m q
-      step (yes h) =
-          rw (lt-ltb q statePlaces h)
-          (sym
-          (keep-lower (codeAt m) (m .«edge_count») (code-rises v) (codeOf q 0) (codeOf (suc q) 0) (omega arith) (startsIn m q)
-          (λ k b least below. eq-eqb (edgeOf m k .from) q (code-state q k b least below))
-          (λ k b t. state-codes q k (record { exists = b; starts = eqb-true (edgeOf m k .from) q t }))))
-      step (no h) =
-          rw (le-ltb q statePlaces (omega arith))
-          (sym
-          (keep-none (startsIn m q) (m .«edge_count»)
-          (λ k b t. omega (arith, from-bound v sized k b, eqb-true (edgeOf m k .from) q t))))
-
-  pub state-inside : (q k : ℕ) → OfState m q k → Inside (stateRange m q) k
-  unfolding stateRange
-  state-inside q k e =
-      let (least, below) = state-codes q k e in
-      rw (lt-ltb q statePlaces (omega (arith, from-bound v sized k (e .exists), e .starts)))
-      (lower-inside (codeAt m) (m .«edge_count») (code-rises v) (codeOf q 0) (codeOf (suc q) 0) k (e .exists) least below)
-
-  pub state-range-edge : (q k : ℕ) → stateRange m q .first ≤ k → k < stateRange m q .end → OfState m q k
-  unfolding stateRange
-  state-range-edge q k = step (decLt q statePlaces)
-    where
-      step : Dec (q < statePlaces) → stateRange m q .first ≤ k → k < stateRange m q .end → OfState m q k
-      step (yes h) i b =
-          let (exists, least, below) =
-          lower-between (codeAt m) (m .«edge_count») (code-rises v) (codeOf q 0) (codeOf (suc q) 0) k
-          (rw (lt-ltb q statePlaces h) at i) (rw (lt-ltb q statePlaces h) at b) in
-          record { exists = exists; starts = code-state q k exists least below }
-      step (no h) i b = absurd (omega (arith, rw (le-ltb q statePlaces (omega arith)) at b))
-
-  -- those of some kinds
-  module _ (q tag n o k : ℕ) where
-    pub kind-inside : OfKinds m q tag n o k → Inside (kindRange m q tag n o) k
-    unfolding firstOf
-    kind-inside e =
-        let exists = e .of-tag .exists in
-        let starts = e .of-tag .starts in
-        let tagged = e .of-tag .tagged in
-        rw (
-          lt-ltb q statePlaces (omega (arith, from-bound v sized k exists)),
-          lt-ltb tag tagPlaces (omega (arith, v .tags k exists)),
-        )
-        (lower-inside (codeAt m) (m .«edge_count») (code-rises v) (codeOf q tag + n) (codeOf q tag + o) k exists
-        (omega (arith, e .least)) (omega (arith, e .below)))
-
-    pub kind-range-edge : o ≤ kindPlaces → Inside (kindRange m q tag n o) k → OfKinds m q tag n o k
-    unfolding firstOf
-    kind-range-edge few = step (decLt q statePlaces) (decLt tag tagPlaces)
+  module _ (q : ℕ) where
+    pub state-range : within (stateRange m q) ≡ edgesOf m q
+    unfolding stateRange edgesOf count
+    state-range = step (decLt q statePlaces)
       where
-        step : Dec (q < statePlaces) → Dec (tag < tagPlaces) → Inside (kindRange m q tag n o) k → OfKinds m q tag n o k
-        step (yes h) (yes i) r =
-            let (first, end) = rw (lt-ltb q statePlaces h, lt-ltb tag tagPlaces i) at r in
-            let (exists, least, below) =
-            lower-between (codeAt m) (m .«edge_count») (code-rises v) (codeOf q tag + n) (codeOf q tag + o) k first end in
-            let tags = v .tags k exists in
+        step : Dec (q < statePlaces) → within (stateRange m q) ≡ edgesOf m q
+        step (yes h) =
+            rw (lt-ltb q statePlaces h)
+            (sym
+            (keep-lower (codeAt m) (m .«edge_count») (codeOf q 0) (codeOf (suc q) 0) (omega arith) (code-rises v) (startsIn m q)
+            (λ k b low high. eq-eqb (edgeOf m k .from) q (omega (arith, v .tags k b, kind-bound (edgeOf m k .kind))))
+            (λ k b t.
+            let e = of-state m q k b t in
+            let few = v .tags k b in
             let kind = kind-bound (edgeOf m k .kind) in
-            record {
-              of-tag = record { exists = exists; starts = omega arith; tagged = omega arith };
-              least = omega arith;
-              below = omega arith;
-            }
-        step (yes h) (no i) r = absurd (omega (arith, (rw (le-ltb tag tagPlaces (omega arith), and-false) at r) .1))
-        step (no h) d r = absurd (omega (arith, (rw (le-ltb q statePlaces (omega arith)) at r) .1))
+            (omega arith, omega arith))))
+        step (no h) =
+            rw (le-ltb q statePlaces (omega arith))
+            (sym
+            (keep-none (startsIn m q) (m .«edge_count»)
+            (λ k b t. omega (arith, from-bound v sized k b, of-state m q k b t .starts))))
 
-  -- those of a tag are of all kinds
-  module _ (q tag k : ℕ) where
-    pub tag-inside : OfTag m q tag k → Inside (tagRange m q tag) k
-    unfolding tagRange
-    tag-inside e =
-        kind-inside q tag 0 kindPlaces k (record { of-tag = e; least = omega arith; below = kind-bound (edgeOf m k .kind) })
+    pub state-range-edge : (k : ℕ) → stateRange m q .first ≤ k → k < stateRange m q .end → OfState m q k
+    unfolding edgesOf
+    state-range-edge k i b =
+        let (exists, t) = range-passes (startsIn m q) (m .«edge_count») (stateRange m q) state-range k i b in
+        of-state m q k exists t
 
-    pub tag-range-edge : tagRange m q tag .first ≤ k → k < tagRange m q tag .end → OfTag m q tag k
-    unfolding tagRange
-    tag-range-edge i b = kind-range-edge q tag 0 kindPlaces k (omega arith) (i, b) .of-tag
+  module _ (q tag : ℕ) where
+    abbrev test : ℕ → Bool
+    test k = startsIn m q k && hasTag m tag k
+
+    pub tag-range : within (tagRange m q tag) ≡ taggedOf m q tag
+    unfolding tagRange taggedOf count
+    tag-range = step (decLt q statePlaces) (decLt tag tagPlaces)
+      where
+        step : Dec (q < statePlaces) → Dec (tag < tagPlaces) → within (tagRange m q tag) ≡ taggedOf m q tag
+        step (yes h) (yes i) =
+            rw (lt-ltb q statePlaces h, lt-ltb tag tagPlaces i)
+            (sym
+            (keep-lower (codeAt m) (m .«edge_count») (codeOf q tag) (codeOf q (suc tag)) (omega arith) (code-rises v) test
+            (λ k b low high.
+            let few = v .tags k b in
+            let kind = kind-bound (edgeOf m k .kind) in
+            and-intro _ _ (eq-eqb (edgeOf m k .from) q (omega arith)) (eq-eqb (edgeOf m k .tag) tag (omega arith)))
+            (λ k b t.
+            let e = of-tag m q tag k b t in
+            let kind = kind-bound (edgeOf m k .kind) in
+            (omega arith, omega arith))))
+        step (yes h) (no i) =
+            rw (le-ltb tag tagPlaces (omega arith), and-false)
+            (sym (keep-none test (m .«edge_count») (λ k b t. omega (arith, v .tags k b, of-tag m q tag k b t .tagged))))
+        step (no h) d =
+            rw (le-ltb q statePlaces (omega arith))
+            (sym
+            (keep-none test (m .«edge_count»)
+            (λ k b t. omega (arith, from-bound v sized k b, of-tag m q tag k b t .starts))))
+
+    pub tag-range-edge : (k : ℕ) → tagRange m q tag .first ≤ k → k < tagRange m q tag .end → OfTag m q tag k
+    unfolding taggedOf
+    tag-range-edge k i b =
+        let (exists, t) = range-passes test (m .«edge_count») (tagRange m q tag) tag-range k i b in of-tag m q tag k exists t
+
+-- ── Edges stand in their ranges ──
+
+abbrev Inside : Range → ℕ → Type 0
+Inside r k = (r .first ≤ k) × (k < r .end)
+
+inside : {ks : List ℕ} (r : Range) → within r ≡ ks → (k : ℕ) → k ∈ ks → Inside r k
+inside r e k m =
+    let (i, b) = count-elim (r .first) (r .end - r .first) k (subst (λ (l : List ℕ). k ∈ l) (sym e) m) in
+    (i, omega arith)
+
+module _ {m : Model} (v : IndexableModel m) (sized : Sized m) where
+  pub state-inside : (q k : ℕ) → OfState m q k → Inside (stateRange m q) k
+  unfolding edgesOf
+  state-inside q k e =
+      inside (stateRange m q) (state-range v sized q) k
+      (keep-intro _ (count-intro 0 (m .«edge_count») k (omega arith) (omega (arith, e .exists))) (eq-eqb _ _ (e .starts)))
+
+  pub tag-inside : (q tag k : ℕ) → OfTag m q tag k → Inside (tagRange m q tag) k
+  unfolding taggedOf
+  tag-inside q tag k e =
+      inside (tagRange m q tag) (tag-range v sized q tag) k
+      (keep-intro _ (count-intro 0 (m .«edge_count») k (omega arith) (omega (arith, e .exists)))
+      (and-intro _ _ (eq-eqb _ _ (e .starts)) (eq-eqb _ _ (e .tagged))))

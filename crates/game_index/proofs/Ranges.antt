@@ -130,55 +130,46 @@ keep-none f n none =
 
 -- ── Places at which a function that does not fall lies between two numbers ──
 
-module _ (f : ℕ → ℕ) (n : ℕ) (rises : (j k : ℕ) → j ≤ k → k < n → f j ≤ f k) where
-  -- up to the first place at which it is not below a number it is below it, and from there on it is not
-  low : (x k : ℕ) → k < lower f x 0 n → f k < x
-  low x k h = lower-is f x 0 n .below k (omega arith) h
+module _ (f : ℕ → ℕ) (n c d : ℕ) (order : c ≤ d) where
+  abbrev start : ℕ
+  start = lower f c 0 n
 
-  high : (x k : ℕ) → lower f x 0 n ≤ k → k < n → x ≤ f k
-  high x k h b = lower-above f x 0 n _ (lower-is f x 0 n) (λ i j p q r. rises i j q (omega arith)) k h (omega arith)
+  abbrev end : ℕ
+  end = lower f d 0 n
 
-  module _ (c d : ℕ) where
-    abbrev start : ℕ
-    start = lower f c 0 n
+  starts : Lower f c 0 n start
+  starts = lower-is f c 0 n
 
-    abbrev end : ℕ
-    end = lower f d 0 n
+  ends : Lower f d 0 n end
+  ends = lower-is f d 0 n
 
-    -- these are the places from the first on, below the second
-    pub lower-inside : (k : ℕ) → k < n → c ≤ f k → f k < d → (start ≤ k) × (k < end)
-    lower-inside k exists least below = (from (decLt k start), to (decLt k end))
-      where
-        from : Dec (k < start) → start ≤ k
-        from (yes h) = absurd (omega (arith, low c k h))
-        from (no h) = omega arith
+  pub lower-order : start ≤ end
+  lower-order = step (decLt end start)
+    where
+      step : Dec (end < start) → start ≤ end
+      step (no h) = omega arith
+      step (yes h) = absurd (omega (arith, starts .below end (omega arith) h, ends .here (omega (arith, starts .most))))
 
-        to : Dec (k < end) → k < end
-        to (yes h) = h
-        to (no h) = absurd (omega (arith, high d k (omega arith) exists))
-
-    pub lower-between : (k : ℕ) → start ≤ k → k < end → (k < n) × (c ≤ f k) × (f k < d)
-    lower-between k i b =
-        let exists : k < n = omega (arith, lower-is f d 0 n .most) in (exists, high c k i exists, low d k b)
-
-    -- a test that passes exactly there keeps them
-    pub keep-lower : c ≤ d → (test : ℕ → Bool)
-        → ((k : ℕ) → k < n → c ≤ f k → f k < d → test k ≡ true)
-        → ((k : ℕ) → k < n → test k ≡ true → (c ≤ f k) × (f k < d))
-        → keep test (count 0 n) ≡ count start (end - start)
-    keep-lower order test passes only =
-        keep-between test 0 n start end
-        (record {
-          from = omega arith;
-          ordered = ordered (decLt end start);
-          inside = lower-is f d 0 n .most;
-          before = λ k i b.
-              fails-unless (test k) (λ t. omega (arith, low c k b, only k (omega (arith, lower-is f c 0 n .most)) t .0));
-          passes = λ k i b. let (exists, least, below) = lower-between k i b in passes k exists least below;
-          after = λ k i b.
-              fails-unless (test k) (λ t. omega (arith, high d k i (omega arith), only k (omega arith) t .1));
-        })
-      where
-        ordered : Dec (end < start) → start ≤ end
-        ordered (no h) = omega arith
-        ordered (yes h) = absurd (omega (arith, low c end h, lower-is f d 0 n .here (omega (arith, lower-is f c 0 n .most))))
+  -- a test that passes exactly there keeps the places from the first on, below the second
+  pub keep-lower : ((j k : ℕ) → j ≤ k → k < n → f j ≤ f k)
+      → (test : ℕ → Bool)
+      → ((k : ℕ) → k < n → c ≤ f k → f k < d → test k ≡ true)
+      → ((k : ℕ) → k < n → test k ≡ true → (c ≤ f k) × (f k < d))
+      → keep test (count 0 n) ≡ count start (end - start)
+  keep-lower rises test passes only =
+      keep-between test 0 n start end
+      (record {
+        from = omega arith;
+        ordered = lower-order;
+        inside = ends .most;
+        before = λ k i b.
+            fails-unless (test k) (λ t. omega (arith, starts .below k i b, only k (omega (arith, starts .most)) t .0));
+        passes = λ k i b.
+            let exists : k < n = omega (arith, ends .most) in
+            passes k exists (above c start starts k i exists) (ends .below k (omega arith) b);
+        after = λ k i b.
+            fails-unless (test k) (λ t. omega (arith, above d end ends k i (omega arith), only k (omega arith) t .1));
+      })
+    where
+      above : (x r : ℕ) → Lower f x 0 n r → (k : ℕ) → r ≤ k → k < n → x ≤ f k
+      above x r h k p q = lower-above f x 0 n r h (λ j k a b c. rises j k b (omega arith)) k p (omega arith)

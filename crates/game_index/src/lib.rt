@@ -16,8 +16,7 @@ ghost use Rattle.fra.specs.Game.{lostAtOnce};
 ghost use Rattle.game_moves.specs.AfterRound.{targetOf};
 ghost use Rattle.game_index.specs.Layout.{edgePlaces, codes, sideWidth};
 ghost use Rattle.game_index.specs.Reading.{sideByte, modelIn, startIn, taskIn, gameIn, rulesIn};
-ghost use Rattle.game_index.specs.Ranges.{firstEdge, stateRange, tagRange, kindsOf};
-ghost use Rattle.game_index.specs.Ranges.{knownIn, locallyFreshIn, freshIn, allIn};
+ghost use Rattle.game_index.specs.Ranges.{firstEdge, stateRange, tagRange};
 ghost use Rattle.game_index.specs.Writing.{drops, Index};
 ghost use Rattle.game_index.specs.Transitions.{transitionOf};
 
@@ -31,61 +30,6 @@ pub struct Range {
 
 impl Range {
     pub const EMPTY: Range = Range { first: 0, end: 0 };
-}
-
-// The edges that start in a state and have a tag, by kind: the known ones from `known` on, below `local`; the locally fresh
-// ones from there on, below `global`; the globally fresh ones from there on, below `end`.
-pub struct Kinds {
-    pub known: u8,
-    pub local: u8,
-    pub global: u8,
-    pub end: u8,
-}
-
-impl Kinds {
-    pub const EMPTY: Kinds = Kinds {
-        known: 0,
-        local: 0,
-        global: 0,
-        end: 0,
-    };
-
-    pub fn known_edges(self) -> Range
-        ensures { λ r. ⌜ r ≡ knownIn self ⌝ }
-    {
-        Range {
-            first: self.known,
-            end: self.local,
-        }
-    }
-
-    pub fn locally_fresh(self) -> Range
-        ensures { λ r. ⌜ r ≡ locallyFreshIn self ⌝ }
-    {
-        Range {
-            first: self.local,
-            end: self.global,
-        }
-    }
-
-    // Locally and globally fresh.
-    pub fn fresh(self) -> Range
-        ensures { λ r. ⌜ r ≡ freshIn self ⌝ }
-    {
-        Range {
-            first: self.local,
-            end: self.end,
-        }
-    }
-
-    pub fn all(self) -> Range
-        ensures { λ r. ⌜ r ≡ allIn self ⌝ }
-    {
-        Range {
-            first: self.known,
-            end: self.end,
-        }
-    }
 }
 
 // What an edge takes, and where it leads.
@@ -303,31 +247,20 @@ pub fn edges_of(index: &[u8; layout::SIZE], side: Side, q: u8) -> Range
     }
 }
 
-// The edges that start in a state and have a tag, by kind. A code exceeds the least one of these by its kind's number.
-pub fn by_kind(index: &[u8; layout::SIZE], side: Side, q: u8, tag: u8) -> Kinds
-    requires { ⌜ Index (now index) ⌝ }
-    ensures { λ r. ⌜ r ≡ kindsOf (modelIn (now (index .entry)) side) q tag ⌝ }
-{
-    if Model::STATES <= q {
-        return Kinds::EMPTY;
-    }
-    if Model::TAGS <= tag {
-        return Kinds::EMPTY;
-    }
-    let code = (q as usize) * layout::TAGGED + (tag as usize) * layout::KINDS;
-    Kinds {
-        known: first_edge(index, side, code),
-        local: first_edge(index, side, code + 1),
-        global: first_edge(index, side, code + 2),
-        end: first_edge(index, side, code + layout::KINDS),
-    }
-}
-
 // The edges that start in a state and have a tag.
 pub fn tagged(index: &[u8; layout::SIZE], side: Side, q: u8, tag: u8) -> Range
     requires { ⌜ Index (now index) ⌝ }
     ensures { λ r. ⌜ r ≡ tagRange (modelIn (now (index .entry)) side) q tag ⌝ }
 {
-    let kinds = by_kind(index, side, q, tag);
-    kinds.all()
+    if Model::STATES <= q {
+        return Range::EMPTY;
+    }
+    if Model::TAGS <= tag {
+        return Range::EMPTY;
+    }
+    let code = (q as usize) * layout::TAGGED + (tag as usize) * layout::KINDS;
+    Range {
+        first: first_edge(index, side, code),
+        end: first_edge(index, side, code + layout::KINDS),
+    }
 }

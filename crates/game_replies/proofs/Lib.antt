@@ -1,5 +1,4 @@
 -- Laws of the search for replies and of attacks that win, for the proofs of the functions and for callers.
 pub mod ReplySearch
-pub mod AnsweringEdges
 pub mod AttackReplies
 pub mod SameWinner

@@ -10,7 +10,7 @@ use Rattle.fra.specs.declared.IdCase.{IdCase}
 use Rattle.fra.specs.declared.Attack.{Attack}
 use Rattle.game_moves.specs.AfterRound.{movedTo, targetOf}
 use Rattle.game_moves.specs.declared.rounds.Target.{Target}
-use Rattle.game_index.specs.Ranges.{kindsOf}
+use Rattle.game_index.specs.Ranges.{tagRange}
 use Rattle.game_replies.specs.declared.Challenge.{Challenge}
 
 -- what an attack asks
@@ -22,7 +22,7 @@ challengeOf t p a =
       case = a .case;
       target = targetOf (modelOf t (a .side)) (attackEdge t a);
       partner = partner p (a .side) (registerOf (attackEdge t a .kind));
-      edges = kindsOf (modelOf t (other (a .side))) (stateOf p (other (a .side))) (attackEdge t a .tag);
+      edges = tagRange (modelOf t (other (a .side))) (stateOf p (other (a .side))) (attackEdge t a .tag);
     }
 
 -- the attack that asks it

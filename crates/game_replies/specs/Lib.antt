@@ -1,5 +1,4 @@
 -- What an attack asks, which edges answer it, and the first attack whose replies all lose.
-pub mod AnsweringEdges
 pub mod Challenges
 pub mod ReplySearch
 pub mod Winner

@@ -7,7 +7,6 @@ use fra::Position;
 use fra::Side;
 use fra::left_partner;
 use fra::right_partner;
-use game_index::Kinds;
 use game_index::Range;
 use game_index::layout::SIZE;
 use game_moves::rounds;
@@ -22,19 +21,18 @@ ghost use Rattle.fra.specs.declared.Side.the-variants.{Left};
 ghost use Rattle.fra_laws.specs.Joint.{compatible};
 ghost use Rattle.game_index.specs.Reading.{taskIn};
 ghost use Rattle.game_index.specs.Writing.{Index};
-ghost use Rattle.game_replies.specs.AnsweringEdges.{asksKnown, answerRange, jointRange};
 ghost use Rattle.game_replies.specs.Challenges.{challengeOf, inCase, afterReply};
 ghost use Rattle.game_replies.specs.ReplySearch.{replyFrom};
 
 // An attack as its replies see it: where its edge leads, the partner of that edge's register, and the edges of the other side that
-// start in its state and have the attack's tag, by kind. It holds no matching: what replies depend on is read once.
+// start in its state and have the attack's tag. It holds no matching: what replies depend on is read once.
 pub struct Challenge {
     pub side: Side,
     pub edge: u8,
     pub case: IdCase,
     pub target: Target,
     pub partner: u8,
-    pub edges: Kinds,
+    pub edges: Range,
 }
 
 impl Challenge {
@@ -49,7 +47,7 @@ impl Challenge {
         let e = game_index::edge_at(index, side, a.edge);
         let transition = game_index::transition_at(index, side, a.edge);
         let target = transition.target;
-        let edges = game_index::by_kind(index, away, p.state(away), e.tag);
+        let edges = game_index::tagged(index, away, p.state(away), e.tag);
         Challenge {
             side,
             edge: a.edge,
@@ -84,8 +82,7 @@ impl Challenge {
         ensures { λ r. ⌜ ((p : Position) (a : Attack) → self ≡ challengeOf (taskIn (now (index .entry))) p a
             → r ≡ isReply (taskIn (now (index .entry))) p a k) ⌝ }
     {
-        let kinds = self.edges;
-        let edges = kinds.all();
+        let edges = self.edges;
         if (k < edges.first) | (edges.end <= k) {
             return false;
         }
@@ -146,35 +143,6 @@ fn answers(partner: u8, case: IdCase, kind: EdgeKind) -> bool
     }
 }
 
-// What answers the id case is known edges, where the attacking edge's register has this partner; else it is fresh ones.
-fn asks_known(partner: u8, case: IdCase) -> bool
-    ensures { λ r. ⌜ r ≡ asksKnown partner case ⌝ }
-{
-    match case {
-        IdCase::Held => partner != 0,
-        IdCase::Private(_) => true,
-        IdCase::Seen => false,
-        IdCase::New => false,
-    }
-}
-
-// Of the edges of a state and a tag, those of a kind that can answer the id case.
-fn answering(partner: u8, case: IdCase, edges: Kinds) -> Range
-    ensures { λ r. ⌜ r ≡ answerRange partner case edges ⌝ }
-{
-    if asks_known(partner, case) {
-        return edges.known_edges();
-    }
-    let local = edges.locally_fresh();
-    let fresh = edges.fresh();
-    match case {
-        IdCase::Held => local,
-        IdCase::Private(_) => local,
-        IdCase::Seen => local,
-        IdCase::New => fresh,
-    }
-}
-
 // A left and a right edge of these kinds can take one number in a round, where the registers have these partners: if one of them is
 // known, the other answers an attack with it; if both are fresh, they take a new number. The matching is not copied.
 pub fn joint(partners: &[u8], left: EdgeKind, right: EdgeKind) -> bool
@@ -191,20 +159,6 @@ pub fn joint(partners: &[u8], left: EdgeKind, right: EdgeKind) -> bool
     true
 }
 
-// Of the right edges of a state and a tag, those of a kind that can take one number with a left edge of this kind. Among them
-// `joint` decides.
-pub fn joint_edges(partners: &[u8], left: EdgeKind, edges: Kinds) -> Range
-    requires { ⌜ length (now partners) ≡ 6 ⌝ }
-    ensures { λ r. ⌜ r ≡ jointRange (now (partners .entry)) left edges ⌝ }
-{
-    let held = IdCase::Held;
-    match left {
-        EdgeKind::Known(i) => answering(right_partner(partners, i), held, edges),
-        EdgeKind::LocallyFresh(_) => edges.all(),
-        EdgeKind::GloballyFresh(_) => edges.fresh(),
-    }
-}
-
 // The later of two edge numbers.
 fn later(a: u8, b: u8) -> u8
     ensures { λ r. ⌜ r ≡ max a b ⌝ }
@@ -212,17 +166,15 @@ fn later(a: u8, b: u8) -> u8
     if a < b { b } else { a }
 }
 
-// The first reply to a challenge, from an edge's number on. Only the edges of a kind that can answer are looked at; the number
-// found is the edge's number in its model, and not a place among these.
+// The first reply to a challenge, from an edge's number on. Only the edges of the challenge are looked at; the number found is the
+// edge's number in its model, and not a place among these.
 pub fn next_reply(index: &[u8; SIZE], challenge: Challenge, from: u8) -> Reply
     requires { ⌜ Index (now index) ⌝ }
     ensures { λ r. ⌜ ((p : Position) (a : Attack) → challenge ≡ challengeOf (taskIn (now (index .entry))) p a
         → r ≡ replyFrom (taskIn (now (index .entry))) p a from) ⌝ }
 {
     let side = challenge.side;
-    let case = challenge.case;
-    let kinds = challenge.edges;
-    let edges = answering(challenge.partner, case, kinds);
+    let edges = challenge.edges;
     let mut k = later(edges.first, from);
     while k < edges.end {
         if challenge.is_reply(index, k) {

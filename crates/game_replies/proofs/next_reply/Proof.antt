@@ -13,7 +13,7 @@ use Rattle.game_index.specs.Reading.{taskIn}
 use Rattle.game_index.proofs.Reading.{model-in}
 use Rattle.game_replies.specs.Challenges.{challengeOf}
 use Rattle.game_replies.specs.ReplySearch.{replyFrom}
-use Rattle.game_replies.proofs.AttackReplies.{answers-holds, placed, none-before, none-past}
+use Rattle.game_replies.proofs.AttackReplies.{placed, none-before, none-past}
 use Rattle.game_replies.proofs.ReplySearch.{reply-here, reply-later, reply-none, reply-skip}
 use Rattle.game_replies.proofs.next_reply.Statement.{statement}
 use Rattle.game_replies.proofs.next_reply.Tie as tie
@@ -28,18 +28,17 @@ abbrev μ-loop : tie.MeasureT-loop
 
 loop-holds : tie.Need-loop-holds Inv-loop μ-loop
 loop-holds c = λ p a e.
-    let range = c .before in
-    let start = range .before .before in
+    let start = c .before .before in
     rw (c .later .ensures)
     (reply-skip _ p a _ _ (omega arith)
-    (λ j l h. let before : j < range .answering .result .first = omega arith in
-    none-before (start .pre) p a (answers-holds (start .pre) p a) j (rw (range .answering .ensures, e) at before)))
+    (λ j l h. let before : j < start .args .challenge .edges .first = omega arith in
+    none-before (start .pre) p a j (rw e at before)))
 
 returns : tie.Need-returns Inv-loop μ-loop
 returns c = λ p a e.
     let tested = c .before .before .before in
     let at-loop = tested .before .before .before in
-    let start = at-loop .before .before .before .before in
+    let start = at-loop .before .before .before in
     let b = now (start .args .index) in
     let k = at-loop .loop .k in
     let found = sym (tested .is-reply .ensures p a e) ∙ c .before .before .if2 .taken in
@@ -58,13 +57,9 @@ loop-again c = λ p a e.
 returns-2 : tie.Need-returns-2 Inv-loop μ-loop
 returns-2 c = λ p a e.
     let at-loop = c .before .before in
-    let range = at-loop .before .before in
-    let start = range .before .before in
-    let past = rw (range .answering .ensures, e) at (c .if1 .left) in
-    sym
-    (at-loop .loop .inv p a e
-    ∙ reply-none _ p a (at-loop .loop .k)
-    (λ j h. none-past (start .pre) p a (answers-holds (start .pre) p a) j (omega arith)))
+    let start = at-loop .before .before .before in
+    let past = rw e at (c .if1 .left) in
+    sym (at-loop .loop .inv p a e ∙ reply-none _ p a (at-loop .loop .k) (λ j h. none-past (start .pre) p a j (omega arith)))
 
 pub next-reply-spec : {M : Type 1} → statement M
 next-reply-spec =
@@ -72,7 +67,6 @@ next-reply-spec =
     (tie.spec
     Inv-loop
     μ-loop
-    (λ c κs. search needs)
     (λ c κs. search needs)
     loop-holds
     (λ c κs. search needs)

@@ -16,7 +16,7 @@ returns c =
     let away = read .before .before .other .ensures in
     rw (
       c .partner .ensures,
-      c .before .by-kind .ensures,
+      c .before .tagged .ensures,
       asked .state .ensures,
       read .transition-at .ensures,
       read .before .edge-at .ensures,

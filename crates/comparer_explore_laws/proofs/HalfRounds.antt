@@ -1,5 +1,4 @@
--- Both halves of a round make the round, for any register count; what they make place by place, and that bytes stay bytes. Assumes
--- nothing.
+-- Both halves of a round make the round, for any register count; what they make place by place. Assumes nothing.
 use Prim.Native.Nat.{ℕ, zero, suc, _+_, _≤_, _<_}
 use mathlib.Core.Path.{_≡_, refl, _∙_, ap, ap₂}
 use mathlib.Core.Bool.{Bool, true, false, cond}
@@ -12,7 +11,6 @@ use lib.Dec.{eqb}
 use borrow.Author.Tests.{ne-eqb}
 use Rattle.fra.specs.Registers.{has}
 use Rattle.fra.specs.Game.{rejoined, remaining, matched}
-use Rattle.listing.proofs.WordLaws.{Bytes}
 use Rattle.comparer_explore_laws.specs.HalfRounds.{inSet, keptAt, keptBy, joinedBy}
 
 -- ── Both halves ──
@@ -74,32 +72,9 @@ kept-at left i (x ∷ xs) zero h = rw add-zero
 kept-at left i (x ∷ xs) (suc k) h = kept-at left (suc i) xs k (omega arith) ∙ rw (suc-add, add-suc)
 
 module _ (right a b : ℕ) where
-  pub joined-length : (i : ℕ) (l : List ℕ) → length (joinedBy right a b i l) ≡ length l
-  unfolding joinedBy
-  joined-length i [] = refl
-  joined-length i (x ∷ xs) = ap suc (joined-length (suc i) xs)
-
   pub joined-at : (i : ℕ) (l : List ℕ) (k : ℕ) → k < length l
       → getD (joinedBy right a b i l) k 0 ≡ inSet right (rejoined a b (i + k) (getD l k 0))
   unfolding joinedBy
   joined-at i [] k h = absurd (omega arith)
   joined-at i (x ∷ xs) zero h = rw add-zero
   joined-at i (x ∷ xs) (suc k) h = joined-at (suc i) xs k (omega arith) ∙ rw (suc-add, add-suc)
-
-  -- ── Bytes ──
-
-  cond-below : (limit : ℕ) (test : Bool) (x y : ℕ) → x < limit → y < limit → cond test x y < limit
-  cond-below limit true x y h k = h
-  cond-below limit false x y h k = k
-
-  rejoined-byte : (i x : ℕ) → b < 256 → x < 256 → rejoined a b i x < 256
-  unfolding rejoined
-  rejoined-byte i x h k = cond-below 256 (eqb i a) b _ h (cond-below 256 (eqb x b) 0 x (omega arith) k)
-
-  -- where the partners were bytes, they are
-  pub joined-bytes : (i : ℕ) (l : List ℕ) → b < 256 → Bytes l → Bytes (joinedBy right a b i l)
-  unfolding joinedBy
-  joined-bytes i [] h bytes k = omega arith
-  joined-bytes i (x ∷ xs) h bytes zero =
-      cond-below 256 (has right (rejoined a b i x)) _ 0 (rejoined-byte i x h (bytes 0)) (omega arith)
-  joined-bytes i (x ∷ xs) h bytes (suc k) = joined-bytes (suc i) xs h (λ j. bytes (suc j)) k

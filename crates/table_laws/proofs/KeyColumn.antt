@@ -2,13 +2,13 @@
 use Prim.Native.Nat.{ℕ, zero, suc, _+_, _*_, _/_, _%_, _^_, _≤_, _<_}
 use mathlib.Core.Path.{_≡_, refl, sym, _∙_, subst}
 use mathlib.Core.Logic.{_⊎_, inl, inr}
-use mathlib.Core.List.{List, [], _∷_, _++_}
+use mathlib.Core.List.{List, [], _∷_}
 use native.Mathlib.Omega.{arith}
 use native.Mathlib.Nat.{zero-add, add-zero, add-suc, suc-add, div-add-mod', mod-lt}
 use native.Mathlib.Decide.{ℕ-discrete, decLt}
 use lib.ListN.{set, length-set, length, getD}
 use lib.Seq.{getD-set-same, getD-set-other, length-sets, ext-getD}
-use Rattle.fra_laws.proofs.ByPlace.{places-length, places-at, places-more}
+use Rattle.fra_laws.proofs.ByPlace.{places-length, places-at}
 use Rattle.outcome.specs.Bytes.{word}
 use Rattle.listing.specs.Widths.{wordWidth}
 use Rattle.listing.specs.Words.{putWord}
@@ -25,10 +25,6 @@ keys-length n t = places-length (keyAt t) n
 pub keys-at : (n : ℕ) (t : List ℕ) (i : ℕ) → i < n → getD (keys n t) i 0 ≡ keyAt t i
 unfolding keys
 keys-at n t i h = places-at (keyAt t) n i 0 h
-
-pub keys-more : (n : ℕ) (t : List ℕ) → keys (n + 1) t ≡ keys n t ++ (keyAt t n ∷ [])
-unfolding keys
-keys-more n t = places-more (keyAt t) n
 
 -- a list of n keys is the table's if it has the key of each entry
 pub keys-are : (n : ℕ) (t ks : List ℕ) → length ks ≡ n → ((i : ℕ) → i < n → keyAt t i ≡ getD ks i 0) → keys n t ≡ ks

@@ -12,7 +12,7 @@ use Rattle.listing.proofs.Digits.{value-bound}
 use Rattle.table_keys.specs.Keys.{partnerBase, Sized, Fits}
 use Rattle.table_keys.specs.declared.Radix.{Radix}
 use Rattle.table_keys.proofs.Keys.{used-length}
-use Rattle.comparer_explore_laws.specs.PartnerSums.{placeOf, wordOf}
+use Rattle.comparer_explore_laws.specs.PartnerSums.{placeOf, wordOf, wordLimit}
 use Rattle.comparer_explore.specs.Sums.{partnersIn}
 
 below-at : (base : ℕ) (l : List ℕ) → Below base l → (i : ℕ) → i < length l → getD l i 0 < base
@@ -21,7 +21,7 @@ below-at base (x ∷ l) b zero h = b .0
 below-at base (x ∷ l) b (suc i) h = below-at base l (b .1) i (omega arith)
 
 -- what a digit counts that at most six follow
-pub place-small : (n : ℕ) → n ≤ 6 → placeOf n ≤ 262144
+pub place-small : (n : ℕ) → n ≤ 6 → placeOf n ≤ wordLimit
 place-small n h = pow-le-pow-right {n = partnerBase} (omega arith) {i = n} {j = 6} h
 
 -- it is a power of two
@@ -40,10 +40,10 @@ module _ {x : Radix} {p : Position} (s : Sized x) (f : Fits x p) where
   partner-digit i h =
       rw (partner-at i h) at (below-at partnerBase (partnersIn x p) (f .partners) i (omega (arith, used-length s f)))
 
-  pub word-small : wordOf (partnersIn x p) < 262144
+  pub word-small : wordOf (partnersIn x p) < wordLimit
   word-small =
       let bound = value-bound partnerBase 1 0 (partnersIn x p) (omega arith) (f .partners) in
-      let most : 1 * partnerBase ^ length (partnersIn x p) ≤ 262144 =
+      let most : 1 * partnerBase ^ length (partnersIn x p) ≤ wordLimit =
       rw (one-mul (partnerBase ^ length (partnersIn x p)))
       (place-small (length (partnersIn x p)) (omega (arith, used-length s f, s .registers))) in
       omega (arith, bound, most)

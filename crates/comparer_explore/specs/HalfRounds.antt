@@ -16,7 +16,7 @@ use Rattle.game_index.specs.declared.Range.{Range}
 use Rattle.table_keys.specs.Keys.{partnerBase}
 use Rattle.table_keys.specs.declared.Radix.{Radix}
 use Rattle.comparer_explore_laws.specs.HalfRounds.{inSet, keptBy, joinedBy}
-use Rattle.comparer_explore_laws.specs.PartnerSums.{wordOf}
+use Rattle.comparer_explore_laws.specs.PartnerSums.{wordOf, wordLimit}
 use Rattle.comparer_explore.specs.Sums.{RestOf}
 use Rattle.comparer_explore.specs.declared.expand.Half.{Half}
 
@@ -52,7 +52,7 @@ joinedTo half size left r =
 pub record Summed (x : Radix) (half : Half) (r : Target) : Type 0 where
   pub long : length (half .rest .adds) ≡ partnerBase
   pub digit : r .register < partnerBase
-  pub small : getD (half .rest .adds) (r .register) 0 < 262144
+  pub small : getD (half .rest .adds) (r .register) 0 < wordLimit
   pub sum : wordOf (take (x .registers) (joinedBy (r .set) (half .register) (r .register) 1 (half .partners)))
       + getD (half .rest .adds) (r .register) 0
       ≡ half .rest .word + r .register * half .rest .place

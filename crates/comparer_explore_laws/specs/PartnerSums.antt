@@ -23,6 +23,10 @@ placeOf n = partnerBase ^ n
 abbrev pub wordOf : List ℕ → ℕ
 wordOf l = value partnerBase 0 l
 
+-- 8 ^ 6: the number of six partners is less
+abbrev pub wordLimit : ℕ
+wordLimit = 262144
+
 -- what of it comes from the pairs of right register b
 unfoldable pub addedBy : ℕ → List ℕ → ℕ
 addedBy b [] = 0

@@ -12,7 +12,7 @@ use Rattle.listing.specs.Digits.{value}
 use Rattle.table_keys.specs.Keys.{partnerBase, sizesOf, frontOf, keyOf, keyLimit}
 use Rattle.table_keys.proofs.Keys.{used-length, key-small, key-part-small}
 use Rattle.comparer_explore_laws.specs.HalfRounds.{joinedBy}
-use Rattle.comparer_explore_laws.specs.PartnerSums.{placeOf, wordOf}
+use Rattle.comparer_explore_laws.specs.PartnerSums.{placeOf, wordOf, wordLimit}
 use Rattle.comparer_explore_laws.proofs.PartnerSums.{value-front}
 use Rattle.comparer_explore.specs.HalfRounds.{joinedTo}
 use Rattle.comparer_explore.proofs.PartnerDigits.{word-small}
@@ -43,7 +43,7 @@ module _ (start : tie.Start) where
   sum : word + added ≡ summed
   sum = start .pre .1 .sum
 
-  few : word < 262144
+  few : word < wordLimit
   unfolding joinedTo
   few = word-small (start .pre .0 .0) (start .pre .0 .1)
 

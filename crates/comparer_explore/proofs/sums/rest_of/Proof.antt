@@ -6,7 +6,7 @@ use lib.ListN.{length, getD, set, length-set}
 use borrow.Author.Needs.{needs}
 use Rattle.table_keys.specs.Keys.{partnerBase}
 use Rattle.table_keys.proofs.Keys.{used-length}
-use Rattle.comparer_explore_laws.specs.PartnerSums.{placeOf, wordOf, addedBy}
+use Rattle.comparer_explore_laws.specs.PartnerSums.{placeOf, wordOf, addedBy, wordLimit}
 use Rattle.comparer_explore_laws.proofs.PartnerSums.{rejoined-take, added-least, added-most, rest-sum, rest-most}
 use Rattle.comparer_explore.specs.Sums.{partnersIn}
 use Rattle.comparer_explore.proofs.PartnerDigits.{partner-at, partner-digit, word-small}
@@ -44,7 +44,7 @@ module _ (start : tie.Start) where
 mul-part : tie.Need-mul-part
 mul-part c =
     let start = c .before .before .before in
-    let small : x start * c .place-of .result < 262144 =
+    let small : x start * c .place-of .result < wordLimit =
     rw (c .place-of .ensures) (omega (arith, few start, all start, word-small (start .pre .0 .0) (start .pre .0 .1))) in
     search (needs, small)
 

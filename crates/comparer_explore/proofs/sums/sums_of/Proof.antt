@@ -11,7 +11,7 @@ use borrow.Author.Needs.{needs}
 use Rattle.listing.specs.Digits.{value}
 use Rattle.table_keys.specs.Keys.{partnerBase}
 use Rattle.table_keys.proofs.Keys.{used-length}
-use Rattle.comparer_explore_laws.specs.PartnerSums.{placeOf, wordOf, AddsOf}
+use Rattle.comparer_explore_laws.specs.PartnerSums.{placeOf, wordOf, AddsOf, wordLimit}
 use Rattle.comparer_explore_laws.proofs.PartnerSums.{word-drop, word-more, adds-none, adds-more, added-most}
 use Rattle.comparer_explore.specs.Sums.{partnersIn}
 use Rattle.comparer_explore.proofs.PartnerDigits.{place-small, partner-at, partner-digit, word-small}
@@ -125,18 +125,18 @@ module _ (c : tie.In-loop Inv-loop μ-loop) where
       (from-adds (c .before .loop .i) (c .before .loop .inv) (c .loop-test .taken) long
       (subst (λ (y : ℕ). y < partnerBase) (sym own) digit))
 
-  small : wordOf (drop i l) < 262144
+  small : wordOf (drop i l) < wordLimit
   small = omega (arith, word-drop i l, word-small (start .pre .0) (start .pre .1))
 
 array-read-x : tie.Need-array-read-x Inv-loop μ-loop
 array-read-x c = omega (arith, here c, start c .pre .0 .registers, start c .pre .1 .long)
 
 mul-part : tie.Need-mul-part Inv-loop μ-loop
-mul-part c = let h : x c * c .before .loop .place < 262144 = omega (arith, word c, small c) in search (needs, h)
+mul-part c = let h : x c * c .before .loop .place < wordLimit = omega (arith, word c, small c) in search (needs, h)
 
 add-word : tie.Need-add-word Inv-loop μ-loop
 add-word c =
-    let h : c .before .loop .word + x c * c .before .loop .place < 262144 = omega (arith, word c, small c) in
+    let h : c .before .loop .word + x c * c .before .loop .place < wordLimit = omega (arith, word c, small c) in
     search (needs, h)
 
 mul-adds : tie.Need-mul-adds Inv-loop μ-loop
@@ -147,7 +147,7 @@ array-read-adds c = digit c
 
 add-adds : tie.Need-add-adds Inv-loop μ-loop
 add-adds c =
-    let h : getD (c .before .loop .adds) (x c) 0 + x c * c .before .loop .place < 262144 = omega (arith, added c, small c) in
+    let h : getD (c .before .loop .adds) (x c) 0 + x c * c .before .loop .place < wordLimit = omega (arith, added c, small c) in
     search (needs, h)
 
 array-write-adds : tie.Need-array-write-adds Inv-loop μ-loop
@@ -161,7 +161,7 @@ place-next c = from-place (c .before .loop .i) (c .before .loop .inv) (c .loop-t
 mul-place : tie.Need-mul-place Inv-loop μ-loop
 mul-place c =
     let n = start c .args .radix .registers in
-    let h : c .before .loop .place * partnerBase ≤ 262144 =
+    let h : c .before .loop .place * partnerBase ≤ wordLimit =
     omega (arith, place-next c, place-small (n - i c) (omega (arith, start c .pre .0 .registers))) in
     search (needs, h)
 

@@ -1,4 +1,6 @@
 // Fresh-register automata (01, "A reader model" and "Positions and rounds"): the types that every other crate speaks in.
+#![tactic(auto)]
+
 ghost use Rattle.std.specs.Prelude.{◌≡◌, length};
 ghost use Rattle.fra.specs.Registers.{has};
 ghost use Rattle.fra.specs.Model.{register_of, kind_number, kind_of, is_known, is_locally_fresh, is_fresh};

@@ -7,15 +7,17 @@ use Rattle.fra.proofs.RegisterSets.{has_none, has_bit}
 use Rattle.fra.proofs.has.Statement.{statement}
 use Rattle.fra.proofs.has.Tie as tie
 
-returns : tie.Need-returns
+returns : tie.Need-returns-then-i-eq0
 unfolding has
 returns c = search rules
 
-returns-2 : tie.Need-returns-2
-returns-2 c = let a = c.before.before.args in sym (has_none a.set a.i (omega arith) (omega arith))
+returns-2 : tie.Need-returns-then-i-gt8
+returns-2 c = let a = c.args in sym (has_none a.set a.i (omega arith) (omega arith))
 
-returns-3 : tie.Need-returns-3
-returns-3 c = let a = c.before.before.args in sym (has_bit a.set a.i (omega arith))
+returns-3 : tie.Need-returns
+returns-3 c = let a = c.args in sym (has_bit a.set a.i (omega arith))
 
-pub has-spec : {M : Type 1} → statement M
-has-spec = tie.close (tie.spec returns returns-2 (λ c. search rules) (λ c. search rules) returns-3)
+pub has_spec : {M : Type 1} → statement M
+has_spec =
+    tie.close
+    (tie.spec returns returns-2 (λ c. search rules) (λ c. search rules) returns-3)

@@ -8,18 +8,20 @@ use Rattle.fra.proofs.Partners.{right_partner-at, right_partner_past}
 use Rattle.fra.proofs.right_partner.Statement.{statement}
 use Rattle.fra.proofs.right_partner.Tie as tie
 
-returns : tie.Need-returns
+returns : tie.Need-returns-then-i-eq0
 unfolding right_partner
 returns c = search rules
 
-returns-2 : tie.Need-returns-2
+returns-2 : tie.Need-returns-then-i-gt-REGISTERS
 returns-2 c =
-    let a = c.before.before.args in
+    let a = c.args in
     let long : length a.partners.now ≡ 6 = search rules in
     sym (right_partner_past a.partners.now a.i (omega arith))
 
-returns-3 : tie.Need-returns-3
-returns-3 c = let a = c.before.before.before.args in sym (right_partner-at a.partners.now a.i (omega arith))
+returns-3 : tie.Need-returns
+returns-3 c = let a = c.args in sym (right_partner-at a.partners.now a.i (omega arith))
 
-pub right-partner-spec : {M : Type 1} → statement M
-right-partner-spec = tie.close (tie.spec returns returns-2 (λ c. search rules) (λ c. search rules) (λ c. search rules) returns-3)
+pub right_partner_spec : {M : Type 1} → statement M
+right_partner_spec =
+    tie.close
+    (tie.spec returns returns-2 (λ c. search rules) (λ c. search rules) (λ c. search rules) returns-3)

@@ -6,7 +6,9 @@ use Rattle.fra.proofs.unshared.Tie as tie
 
 returns : tie.Need-returns
 unfolding is_unshared
-returns c = rw (c.before.before.has.ensures, c.left-partner.ensures)
+returns c = rw (c.has.ensures, c.left_partner.ensures)
 
-pub unshared-spec : {M : Type 1} → statement M
-unshared-spec = tie.close (tie.spec (λ c κs. search rules) (λ c. search rules) (λ c κs. search rules) returns)
+pub unshared_spec : {M : Type 1} → statement M
+unshared_spec =
+    tie.close
+    (tie.spec (λ c κs. search rules) (λ c. search rules) (λ c κs. search rules) returns)

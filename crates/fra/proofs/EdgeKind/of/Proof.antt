@@ -11,14 +11,16 @@ kind-rest zero i p q = absurd (p refl)
 kind-rest (suc zero) i p q = absurd (q refl)
 kind-rest (suc (suc n)) i p q = refl
 
-returns : tie.Need-returns
-returns c = rw c.match.keys1
+returns : tie.Need-returns-in-0
+returns c = rw c.in-0.is
 
-returns-2 : tie.Need-returns-2
-returns-2 c = rw c.match.keys2
+returns-2 : tie.Need-returns-in-1
+returns-2 c = rw c.in-1.is
 
-returns-3 : tie.Need-returns-3
-returns-3 c = sym (kind-rest _ _ c.match.rest.0.1 c.match.rest.1)
+returns-3 : tie.Need-returns-in_default
+returns-3 c = sym (kind-rest _ _ c.in_default.in_default-own.rest.0.1 c.in_default.in_default-own.rest.1)
 
 pub of_spec : {M : Type 1} → statement M
-of_spec = tie.close (tie.spec returns returns-2 returns-3)
+of_spec =
+    tie.close
+    (tie.spec returns returns-2 returns-3)

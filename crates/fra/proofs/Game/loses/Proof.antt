@@ -3,11 +3,13 @@ use borrow.Author.Rules.{rules}
 use Rattle.fra.proofs.Game.loses.Statement.{statement}
 use Rattle.fra.proofs.Game.loses.Tie as tie
 
-returns : tie.Need-returns
-returns c = rw c.enum_told.given.1
+returns : tie.Need-returns-in-BothAttack
+returns c = rw c.in-BothAttack.is
 
-returns-2 : tie.Need-returns-2
-returns-2 c = rw c.enum-told2.given.1
+returns-2 : tie.Need-returns-in-LeftAttacks
+returns-2 c = rw c.in-LeftAttacks.is
 
-pub loses-spec : {M : Type 1} → statement M
-loses-spec = tie.close (tie.spec (λ c. search rules) (λ c. search rules) returns returns-2)
+pub loses_spec : {M : Type 1} → statement M
+loses_spec =
+    tie.close
+    (tie.spec (λ c. search rules) (λ c. search rules) returns returns-2)

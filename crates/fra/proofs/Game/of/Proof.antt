@@ -11,8 +11,10 @@ game-rest : (n : ℕ) → (n ≡ 0 → ⊥) → game_of n ≡ LeftAttacks
 game-rest zero p = absurd (p refl)
 game-rest (suc n) p = refl
 
-returns-2 : tie.Need-returns-2
-returns-2 c = sym (game-rest _ c.match.rest.1)
+returns-2 : tie.Need-returns-in_default
+returns-2 c = sym (game-rest _ c.in_default.in_default-own.rest.1)
 
 pub of_spec : {M : Type 1} → statement M
-of_spec = tie.close (tie.spec (λ c. search rules) returns-2)
+of_spec =
+    tie.close
+    (tie.spec (λ c. search rules) returns-2)

@@ -9,42 +9,42 @@ use Rattle.fra.proofs.HeldNumbers.{held_up_to, held_none, held_more, held_all, b
 use Rattle.fra.proofs.Position.held.Statement.{statement}
 use Rattle.fra.proofs.Position.held.Tie as tie
 
-abbrev invariant-loop : tie.invariant-loop
+abbrev invariant-loop : tie.invariant-loop-counted
 invariant-loop left right partners held₀ counted₀ held counted =
     (counted ≤ 6) × (length partners ≡ 6) × (held ≤ 2 * counted) × (held ≡ held_up_to left right partners counted)
 
-abbrev decreases-loop : tie.decreases-loop
+abbrev decreases-loop : tie.decreases-loop-counted
 decreases-loop left right partners held₀ counted₀ held counted = 6 - counted
 
-loop-holds : tie.Need-loop-init invariant-loop decreases-loop
+loop-holds : tie.Need-loop-counted-init invariant-loop decreases-loop
 loop-holds c =
-    let a = c.before.args in
+    let a = c.args in
     (search rules, search rules, search rules, sym (held_none a.left a.right a.self.partners))
 
-add-held : tie.Need-overflow-add-held invariant-loop decreases-loop
-add-held c = omega (arith, byte_small c.before.has.result, byte_small c.unshared.result)
+add-held : tie.Need-overflow_add-held invariant-loop decreases-loop
+add-held c = omega (arith, byte_small c.has.result, byte_small c.unshared.result)
 
-add-held-2 : tie.Need-overflow-add-held-2 invariant-loop decreases-loop
+add-held-2 : tie.Need-overflow_add-held-in-loop-counted invariant-loop decreases-loop
 add-held-2 c =
-    let inv = c.before.before.before.loop.invariant in
-    omega (arith, byte_small c.before.has.result, byte_small c.unshared.result, inv.0, inv.2)
+    let inv = c.loop-counted.invariant in
+    omega (arith, byte_small c.has.result, byte_small c.unshared.result, inv.0, inv.2)
 
-loop-again : tie.Need-loop-preserved invariant-loop decreases-loop
+loop-again : tie.Need-loop-counted-preserved invariant-loop decreases-loop
 loop-again c =
     let here = c.before.before.before in
-    let a = here.before.before.args in
-    let more = held_more a.left a.right a.self.partners here.loop.counted in (
+    let a = here.args in
+    let more = held_more a.left a.right a.self.partners here.loop-counted.counted in (
       omega arith,
-      here.loop.invariant.1,
-      omega (arith, byte_small c.before.has.result, byte_small c.unshared.result, here.loop.invariant.2),
-      rw (c.before.has.ensures, c.unshared.ensures, here.loop.invariant.3) (sym more),
+      here.loop-counted.invariant.1,
+      omega (arith, byte_small c.has.result, byte_small c.unshared.result, here.loop-counted.invariant.2),
+      rw (c.has.ensures, c.unshared.ensures, here.loop-counted.invariant.3) (sym more),
     )
 
 returns : tie.Need-returns invariant-loop decreases-loop
 returns c =
-    let inv = c.before.loop.invariant in
-    let a = c.before.before.before.args in
-    let whole : c.before.loop.counted ≡ length a.self.partners = omega (arith, inv.0, inv.1) in
+    let inv = c.loop-counted.invariant in
+    let a = c.args in
+    let whole : c.loop-counted.counted ≡ length a.self.partners = omega (arith, inv.0, inv.1) in
     inv.3 ∙ rw whole (sym (held_all a.left a.right a.self.partners))
 
 pub held_spec : {M : Type 1} → statement M

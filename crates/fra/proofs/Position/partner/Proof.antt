@@ -4,16 +4,16 @@ use Rattle.fra.specs.Position.{partner}
 use Rattle.fra.proofs.Position.partner.Statement.{statement}
 use Rattle.fra.proofs.Position.partner.Tie as tie
 
-returns : tie.Need-returns
+returns : tie.Need-returns-in-Left
 unfolding partner
 returns c = cc
 
-returns-2 : tie.Need-returns-2
+returns-2 : tie.Need-returns-in-Right
 unfolding partner
 returns-2 c = cc
 
-pub partner-spec : {M : Type 1} → statement M
-partner-spec =
+pub partner_spec : {M : Type 1} → statement M
+partner_spec =
     tie.close
     (tie.spec
     (λ c. search rules)

@@ -1,6 +1,8 @@
 // The program `check_certificate TASK CERTIFICATE [--one-way]`: what the checker answers to the task and the proposed certificate
 // in two files, in one line on standard output: `ACCEPTED`, the verdict and the start's listed rounds; `REFUSED` and the number;
 // or `TOO LONG`.
+#![tactic(auto)]
+
 ghost use Rattle.check_certificate.specs.Files.{Within};
 
 use fra::Game;
@@ -38,7 +40,7 @@ fn print_accepted(verdict: Verdict, rounds: u32) {
 }
 
 // The game that the certificate is checked by, or the arguments ask for none, which has been said on standard error.
-#[derive(Drop)]
+#[derive(Clone, Copy)]
 enum Asked {
     By(Game),
     Unknown,
@@ -63,7 +65,7 @@ fn game_asked() -> Asked {
 }
 
 // What a file gave: so many bytes, or it could not be read, which has been said on standard error.
-#[derive(Drop)]
+#[derive(Clone, Copy)]
 enum FileRead {
     Bytes(usize),
     Failed,

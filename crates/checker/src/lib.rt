@@ -1,5 +1,7 @@
 // The certificate checker (01, "Verdict, table, certificate" and "Turned back, in checking order"): a task and a proposed
 // certificate in, acceptance with its verdict and rounds or a refusal out.
+#![tactic(auto)]
+
 ghost use Rattle.std.specs.Prelude.{◌≡◌};
 ghost use Rattle.outcome.specs.Verdicts.{contest_of};
 ghost use Rattle.outcome.specs.Check.{check_task, check};

@@ -1,6 +1,8 @@
 // Acceptance of a well-formed list: of kept positions, each of whose attacks must have a reply that leads to a listed one, or of
 // losses, whose attacks must lead to listed positions of fewer rounds alone; with the start among them. The standing says which of
 // the two it is.
+#![tactic(auto)]
+
 ghost use Rattle.std.specs.Prelude.{◌<◌, ◌≡◌, length};
 ghost use Rattle.std.proofs.Math.Option.{some};
 ghost use Rattle.outcome.specs.Check.{holds, forces, loss_holds};
@@ -22,7 +24,7 @@ use listing::{Listing, Place, find, position_at, rounds_at};
 use outcome::{Standing, layout};
 
 // What a record of a lost position claims.
-#[derive(Drop)]
+#[derive(Clone, Copy)]
 pub struct Claim {
     pub position: Position,
     pub side: u8,

@@ -1,4 +1,6 @@
 // The attack that a record of a certificate names, and whether it exists.
+#![tactic(auto)]
+
 ghost use Rattle.std.specs.Prelude.{◌≡◌};
 ghost use Rattle.fra.specs.Game.{is_attack};
 ghost use Rattle.outcome.specs.Check.{side_of, case_of, attack_from};
@@ -10,19 +12,19 @@ use game_index::layout::SIZE;
 use game_moves::cases::has_case;
 
 // What the numbers of a record name.
-#[derive(Drop)]
+#[derive(Clone, Copy)]
 pub enum SideNamed {
     Of(Side),
     Nothing,
 }
 
-#[derive(Drop)]
+#[derive(Clone, Copy)]
 pub enum CaseNamed {
     Of(IdCase),
     Nothing,
 }
 
-#[derive(Drop)]
+#[derive(Clone, Copy)]
 pub enum AttackNamed {
     By(Attack),
     Nothing,

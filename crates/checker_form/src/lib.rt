@@ -1,4 +1,6 @@
 // The form of a proposed certificate: whole records of one kind, with legal positions that rise strictly.
+#![tactic(auto)]
+
 ghost use Rattle.std.specs.Prelude.{◌<◌, ◌≡◌};
 ghost use Rattle.game_index.specs.Reading.{task_in};
 ghost use Rattle.listing.specs.Listing.{Fitting};

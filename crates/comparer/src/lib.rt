@@ -1,5 +1,7 @@
 // The comparer (01, "Verdict, table, certificate"): a game, a task, a lent table and a lent certificate buffer in; a verdict
 // or a refusal out. It has no memory but what is lent.
+#![tactic(auto)]
+
 ghost use Rattle.std.specs.Prelude.{◌^◌, ◌<◌, ◌≡◌};
 ghost use Rattle.outcome.specs.Bytes.{cleared};
 ghost use Rattle.outcome.specs.Verdicts.{contest_of};

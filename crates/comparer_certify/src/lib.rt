@@ -1,5 +1,7 @@
 // The certificate of a ranked table (01, "Verdict, table, certificate"), written with no memory but the table: what a lost
 // start's attacks lead to is marked in it, and the marks are cleared at the end.
+#![tactic(auto)]
+
 mod fields;
 mod writing;
 
@@ -14,7 +16,7 @@ use outcome::Standing;
 use outcome::layout::NEVER;
 
 // The length of a certificate that was written, or that it is longer than its buffer.
-#[derive(Drop)]
+#[derive(Clone, Copy)]
 pub enum Certified {
     Length(usize),
     TooLong,

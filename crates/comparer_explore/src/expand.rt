@@ -27,7 +27,7 @@ use table_keys::{PARTNER_BASE, Radix};
 
 // A position that is expanded: whether the history has room for a number seen before, what its keys are sized by, and how many keys
 // there are.
-#[derive(Drop)]
+#[derive(Clone, Copy)]
 pub struct Source {
     pub position: Position,
     pub room: bool,
@@ -50,7 +50,7 @@ pub fn visit(table: &mut [u8], n: usize, key: u32, keys: u32) -> Explored
 // What a left edge leaves of the matching, whichever right edge takes the same number: the partners of the registers in its to
 // set, and the register that holds the number taken, or 0 where that set has it not. Where it drops no register, also the
 // numbers that a key is made of. It is made once for each left edge.
-#[derive(Drop)]
+#[derive(Clone, Copy)]
 struct Half {
     partners: [u8; 6],
     register: u8,

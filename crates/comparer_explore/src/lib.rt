@@ -1,5 +1,7 @@
 // Exploring in place (01, "Positions reached are the start and all that attacks and replies lead to"): the lent table is the set
 // of positions found, and the queue of those whose successors are still to be found.
+#![tactic(auto)]
+
 ghost use Rattle.std.specs.Prelude.{◌≡◌, length};
 ghost use Rattle.game_index.specs.Reading.{task_in, rules_in};
 ghost use Rattle.game_index.specs.Writing.{Index};
@@ -17,7 +19,7 @@ mod expand;
 mod sums;
 
 // How many positions the table holds; or a position has no room.
-#[derive(Drop)]
+#[derive(Clone, Copy)]
 pub enum Explored {
     Count(usize),
     TooMany,

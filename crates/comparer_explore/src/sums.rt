@@ -12,7 +12,7 @@ use table_keys::{PARTNER_BASE, Radix};
 const PARTNER_BITS: u8 = 3;
 
 // Of a position: its partners as one number, and for each right register what its pair adds to that.
-#[derive(Drop)]
+#[derive(Clone, Copy)]
 pub struct Sums {
     pub word: u32,
     pub adds: [u32; 8],
@@ -20,7 +20,7 @@ pub struct Sums {
 
 // Of a position and a left register that is written: the number without its partner, what a partner counts there, and for each
 // right register what its pair with another register adds.
-#[derive(Drop)]
+#[derive(Clone, Copy)]
 pub struct Rest {
     pub word: u32,
     pub place: u32,

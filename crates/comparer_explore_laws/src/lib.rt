@@ -1,1 +1,2 @@
 // Definitions and laws of exploring in a table, in specs/ and proofs/; nothing to run.
+#![tactic(auto)]

@@ -1,1 +1,2 @@
 // How the parts of a comparison fit together: theorems in proofs/, nothing to run.
+#![tactic(auto)]

@@ -1,4 +1,6 @@
 // What the attacks of a lost start lead to, marked in the table. Its rounds are doubled, so that marks can stand.
+#![tactic(auto)]
+
 ghost use Rattle.std.specs.Prelude.{◌<◌, ◌≡◌};
 ghost use Rattle.std.proofs.Math.Option.{some};
 ghost use Rattle.outcome.specs.Certificate.{attack_leads};

@@ -1,5 +1,7 @@
 // Marks in a table of ranked positions. While marks stand, the rounds of an entry are doubled, and 1 more where the entry is
 // marked; FF FF FF FF stays as it is.
+#![tactic(auto)]
+
 ghost use Rattle.std.specs.Prelude.{◌≡◌, length};
 ghost use Rattle.listing.specs.Listing.{of_table, Fitting, Searchable};
 ghost use Rattle.comparer_certify_laws.specs.MarkedRounds.{with_mark, is_marked};
@@ -27,7 +29,7 @@ pub fn rounds_of(table: &[u8], n: usize, q: Position) -> u32
 }
 
 // What is done to the rounds of all entries.
-#[derive(Drop)]
+#[derive(Clone, Copy)]
 pub enum Scale {
     Double,
     Halve,

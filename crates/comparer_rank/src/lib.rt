@@ -2,6 +2,8 @@
 // FF FF FF FF. A reply counts as lost in pass k if its rounds are fewer than k, so marks of the same pass do not count. From
 // pass 2 on a pass looks only at positions whose states lead to the states of one that the pass before has marked (`worth`).
 // Where a reply leads is looked up only if positions with its states are lost (`losing`).
+#![tactic(auto)]
+
 ghost use Rattle.std.specs.Prelude.{◌*◌, ◌<◌, ◌≡◌, ◌++◌, drop};
 ghost use Rattle.outcome.specs.Bytes.{all_ones};
 ghost use Rattle.outcome.specs.Certificate.{entries};

@@ -1,5 +1,7 @@
 // Which positions a pass of ranking can leave alone: those from whose states no round leads to the states of a position lost in
 // the pass before. And which it need not look up: those with whose states none is lost.
+#![tactic(auto)]
+
 ghost use Rattle.std.specs.Prelude.{◌≡◌};
 ghost use Rattle.listing.specs.Listing.{of_table, Fitting};
 ghost use Rattle.game_index.specs.Reading.{task_in};

@@ -1,5 +1,7 @@
 // What the programs `compare` and `compare_one_way` do (01, "Sample pairs"): a task on standard input; the lines of its
 // comparison by a game, which the crate `text` gives, on standard output.
+#![tactic(auto)]
+
 ghost use Rattle.std.specs.Prelude.{◌≤◌};
 ghost use Rattle.text.specs.LentLine.{line_room};
 

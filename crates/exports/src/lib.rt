@@ -1,5 +1,7 @@
 // The static library: the comparer and the certificate checker for callers in C. Buffers are a pointer and a length each;
 // the answer is returned by value.
+#![tactic(auto)]
+
 ghost use Rattle.std.specs.Prelude.{◌≡◌};
 ghost use Rattle.outcome.specs.Verdicts.{contest_of, equality, one_way, values_of, checked_values_of};
 ghost use Rattle.outcome.specs.Compare.{compare};
@@ -12,7 +14,7 @@ use outcome::{Check, Comparison};
 // What a call returns: a refusal's number and zeros, or 0 and the verdict's numbers. A verdict's number is the kind of its
 // certificate's records.
 #[repr(C)]
-#[derive(Drop)]
+#[derive(Clone, Copy)]
 pub struct Answer {
     pub refusal: u32,
     pub verdict: u32,

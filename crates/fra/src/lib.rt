@@ -9,7 +9,7 @@ ghost use Rattle.fra.specs.Position.{unmatched, state_of, right_partner, left_pa
 ghost use Rattle.fra.specs.Game.{size_after};
 
 // What an edge takes, with the register that it reads or writes.
-#[derive(Drop)]
+#[derive(Clone, Copy)]
 pub enum EdgeKind {
     // exactly the number in the register
     Known(u8),
@@ -85,7 +85,7 @@ impl EdgeKind {
 }
 
 // A transition.
-#[derive(Drop)]
+#[derive(Clone, Copy)]
 pub struct Edge {
     pub from: u8,
     pub tag: u8,
@@ -94,7 +94,7 @@ pub struct Edge {
 }
 
 // The registers that are filled in a state (bit 0 is register 1), and its end mark.
-#[derive(Drop)]
+#[derive(Clone, Copy)]
 pub struct State {
     pub set: u8,
     pub mark: u8,
@@ -114,7 +114,7 @@ pub fn has(set: u8, i: u8) -> bool
 }
 
 // A fresh-register automaton. States and edges past their counts are zeros.
-#[derive(Drop)]
+#[derive(Clone, Copy)]
 pub struct Model {
     pub registers: u8,
     pub start: u8,
@@ -146,7 +146,7 @@ impl Model {
 
 // A pair of symbolic configurations: two states, for each left register the right register that holds the same number, 0 for
 // none, and the history's size.
-#[derive(Drop)]
+#[derive(Clone, Copy)]
 pub struct Position {
     pub left: u8,
     pub right: u8,
@@ -250,7 +250,7 @@ fn unshared(partners: [u8; 6], right: u8, j: u8) -> bool
 }
 
 // Two models, and the position that a comparison starts from. Its history's size may be stated in the task's file.
-#[derive(Drop)]
+#[derive(Clone, Copy)]
 pub struct Task {
     pub left: Model,
     pub right: Model,
@@ -258,7 +258,7 @@ pub struct Task {
     pub history_stated: bool,
 }
 
-#[derive(Drop)]
+#[derive(Clone, Copy)]
 pub enum Side {
     Left,
     Right,
@@ -285,7 +285,7 @@ impl Side {
 }
 
 // Which game is played: who attacks, and which end marks lose at once.
-#[derive(Drop)]
+#[derive(Clone, Copy)]
 pub enum Game {
     // bisimulation
     BothAttack,
@@ -335,7 +335,7 @@ impl Game {
 }
 
 // Where the number of an attack stands before the round (01: the id case).
-#[derive(Drop)]
+#[derive(Clone, Copy)]
 pub enum IdCase {
     // case 0: in the register of a known edge
     Held,
@@ -368,7 +368,7 @@ impl IdCase {
 }
 
 // A challenge: one side takes one of its edges.
-#[derive(Drop)]
+#[derive(Clone, Copy)]
 pub struct Attack {
     pub side: Side,
     pub edge: u8,

@@ -1,5 +1,7 @@
 // The index of a task: its models, its start and the game as bytes that are written once and read by reference, so
 // that no model is copied for a position or an edge.
+#![tactic(auto)]
+
 ghost use Rattle.std.specs.Prelude.{◌+◌, ◌≤◌, ◌<◌, ◌≡◌};
 ghost use Rattle.fra.specs.Model.{set_of, mark_of, edge_of};
 ghost use Rattle.fra.specs.Position.{has_room};
@@ -18,7 +20,7 @@ use game_moves::rounds::Target;
 pub mod layout;
 
 // Edge numbers from `first` on, below `end`.
-#[derive(Drop)]
+#[derive(Clone, Copy)]
 pub struct Range {
     pub first: u8,
     pub end: u8,
@@ -29,7 +31,7 @@ impl Range {
 }
 
 // What an edge takes, and where it leads.
-#[derive(Drop)]
+#[derive(Clone, Copy)]
 pub struct Transition {
     pub kind: EdgeKind,
     pub target: Target,

@@ -1,4 +1,6 @@
 // Writes the index of a task, part by part.
+#![tactic(auto)]
+
 ghost use Rattle.std.specs.Prelude.{suc, ◌+◌, ◌*◌, ◌-◌, ◌≤◌, ◌≡◌, not, ◌&&◌, get_or, replicate};
 ghost use mathlib.Core.List.{[], ◌∷◌, map, flat_map};
 ghost use Rattle.std.proofs.lemmas.List.Edits.{sets};

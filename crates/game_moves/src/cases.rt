@@ -11,7 +11,7 @@ const COUNT: u8 = Model::REGISTERS + 3;
 pub const NEW: u8 = Model::REGISTERS + 2;
 
 // A case of the edge, with the number of the case to go on from; or there is none from there on.
-#[derive(Drop)]
+#[derive(Clone, Copy)]
 pub enum CaseFound {
     At(IdCase, u8),
     NoMore,

@@ -8,7 +8,7 @@ ghost use Rattle.game_moves.specs.HistorySizes.{first_size, both_locally_fresh};
 use fra::{EdgeKind, IdCase, Model, Position, has};
 
 // Where an edge leads: the register that holds the number taken, the to state and its register set.
-#[derive(Drop)]
+#[derive(Clone, Copy)]
 pub struct Target {
     pub register: u8,
     pub state: u8,

@@ -1,4 +1,6 @@
 // What an attack asks of its replies, the test for them, and the search for them among the edges of the other side.
+#![tactic(auto)]
+
 ghost use Rattle.std.specs.Prelude.{max, ◌≡◌, cond, length};
 ghost use Rattle.fra.specs.Model.{is_locally_fresh, is_fresh};
 ghost use Rattle.fra.specs.Game.{answers, is_reply};
@@ -17,7 +19,7 @@ use game_moves::rounds::Target;
 
 // An attack as its replies see it: where its edge leads, the partner of that edge's register, and the edges of the other side that
 // start in its state and have the attack's tag. It holds no matching: what replies depend on is read once.
-#[derive(Drop)]
+#[derive(Clone, Copy)]
 pub struct Challenge {
     pub side: Side,
     pub edge: u8,
@@ -101,7 +103,7 @@ impl Challenge {
 }
 
 // A reply: the number of its edge in its model, and where that edge leads; or none is left.
-#[derive(Drop)]
+#[derive(Clone, Copy)]
 pub enum Reply {
     By(u8, Target),
     Missing,

@@ -1,4 +1,6 @@
 // Sets of pairs of a left and a right state, with a byte for each pair that is not 0 for a member.
+#![tactic(auto)]
+
 ghost use Rattle.std.specs.Prelude.{◌<◌, ◌≡◌};
 ghost use Rattle.game_state_pairs.specs.StatePairs.{pair_places, pair_of, has_pair, with_pair};
 

@@ -1,6 +1,8 @@
 // The one walk through a position's attacks and their replies. A listing judges the positions that replies lead to, the table
 // while ranking and certifying, a certificate while it is checked: an attack wins if all its replies lead to positions that are
 // judged lost. `losing` are the pairs of states whose positions the listing is asked for.
+#![tactic(auto)]
+
 ghost use Rattle.std.specs.Prelude.{◌≡◌};
 ghost use Rattle.listing.specs.Listing.{Searchable};
 ghost use Rattle.game_index.specs.Reading.{task_in};
@@ -21,21 +23,21 @@ use game_state_pairs::SIZE as PAIRS;
 use listing::{Listing, Place};
 
 // Which positions count as lost: those with fewer rounds than this, or those that are not listed.
-#[derive(Drop)]
+#[derive(Clone, Copy)]
 pub enum Test {
     Sooner(u32),
     Unlisted,
 }
 
 // A test and the listing that it is made by.
-#[derive(Drop)]
+#[derive(Clone, Copy)]
 pub struct Judge {
     pub records: Listing,
     pub test: Test,
 }
 
 // The answer of a search for an attack that wins.
-#[derive(Drop)]
+#[derive(Clone, Copy)]
 pub enum Win {
     By(Attack),
     Nobody,

@@ -1,5 +1,7 @@
 // The set of keys in the lent table: it begins with a column of words, the keys found, in order of discovery. Whether a key is among
 // them is told by a bit for each possible key where these fit behind two words for each entry, and by hash chains otherwise.
+#![tactic(auto)]
+
 mod bits;
 mod chains;
 
@@ -13,7 +15,7 @@ ghost use Rattle.key_set.specs.Insertions.{Inserts};
 
 use outcome::layout::ENTRY;
 
-#[derive(Drop)]
+#[derive(Clone, Copy)]
 pub enum Inserted {
     Present,
     Added,

@@ -1,5 +1,7 @@
 // Records of positions in lent bytes, rising by position: the entries of the table, and the records of a certificate. One search
 // looks a position up in either.
+#![tactic(auto)]
+
 ghost use Rattle.std.specs.Prelude.{◌+◌, ◌≤◌, ◌<◌, ◌≡◌, length, drop, ltb, eqb};
 ghost use Rattle.std.proofs.lemmas.List.Edits.{sets};
 ghost use Rattle.fra.specs.Position.{bytes, before};
@@ -17,7 +19,7 @@ pub mod words;
 
 // How many records there are, the bytes of each, and where a record's position and rounds stand in it. Records without rounds
 // have no use for their place.
-#[derive(Drop)]
+#[derive(Clone, Copy)]
 pub struct Listing {
     pub count: usize,
     pub width: usize,
@@ -64,7 +66,7 @@ impl Listing {
 }
 
 // Where a look-up finds a position.
-#[derive(Drop)]
+#[derive(Clone, Copy)]
 pub enum Place {
     At(usize),
     Nowhere,
@@ -111,7 +113,7 @@ pub fn rounds_at(list: &[u8], records: Listing, i: usize) -> u32
 }
 
 // The number of a position's bytes, high byte first: it has more bits than a u64, so the last byte stands apart.
-#[derive(Drop)]
+#[derive(Clone, Copy)]
 struct Number {
     first: u64,
     last: u8,

@@ -1,4 +1,6 @@
 // What a comparison and a certificate check answer (01, "Verdict, table, certificate").
+#![tactic(auto)]
+
 ghost use Rattle.std.specs.Prelude.{◌≡◌};
 ghost use Rattle.outcome.specs.Verdicts.{verdict_of, kind_of, width_of, standing_of};
 
@@ -7,7 +9,7 @@ use fra::Game;
 pub mod layout;
 
 // How a position stands: it is never lost, or it is lost.
-#[derive(Drop)]
+#[derive(Clone, Copy)]
 pub enum Standing {
     Kept,
     Lost,
@@ -25,7 +27,7 @@ impl Standing {
     }
 }
 
-#[derive(Drop)]
+#[derive(Clone, Copy)]
 pub enum Verdict {
     Equal,
     Differ,
@@ -76,7 +78,7 @@ impl Verdict {
 }
 
 // What the comparer returns; the lent table and certificate buffer hold the rest.
-#[derive(Drop)]
+#[derive(Clone, Copy)]
 pub enum Comparison {
     Decided {
         verdict: Verdict,
@@ -88,7 +90,7 @@ pub enum Comparison {
 }
 
 // What the certificate checker returns.
-#[derive(Drop)]
+#[derive(Clone, Copy)]
 pub enum Check {
     Accepted { verdict: Verdict, rounds: u32 },
     Refused(u8),

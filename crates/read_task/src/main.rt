@@ -1,5 +1,7 @@
 // Prints what the task reader makes of standard input: REFUSED and the number, or READ and the numbers of both models and
 // of the start position. For tests against the reference.
+#![tactic(auto)]
+
 use fra::{Edge, EdgeKind, Model, Position};
 use task::Answer;
 

@@ -1,5 +1,7 @@
 // The lent table (01, "Verdict, table, certificate"). While positions are explored it begins with their keys, a word each;
 // afterwards an entry holds a position's bytes and its rounds.
+#![tactic(auto)]
+
 ghost use Rattle.std.specs.Prelude.{◌≡◌, ◌+◌, ◌*◌, ◌≤◌, ◌++◌, length, take, drop};
 ghost use Rattle.std.proofs.lemmas.List.Edits.{sets};
 ghost use Rattle.outcome.specs.Bytes.{all_ones, cleared, then_zeros};

@@ -1,5 +1,7 @@
 // A position as one number, its key. Keys are sized to the task: there are no more than its states, registers and history sizes
 // ask for, so a key can be the place of a bit.
+#![tactic(auto)]
+
 ghost use Rattle.std.specs.Prelude.{◌<◌, ◌≡◌};
 ghost use Rattle.game_index.specs.Reading.{task_in};
 ghost use Rattle.table_keys.specs.Keys.{sizes_of, key_of, key_count, position_from, radix_of, Sized, Fits};
@@ -12,7 +14,7 @@ use game_index::{register_count, start, state_count};
 pub const PARTNER_BASE: u32 = 8;
 
 // What the digits of a key are sized by: the states of either side, the left registers, and the least size of the history.
-#[derive(Drop)]
+#[derive(Clone, Copy)]
 pub struct Radix {
     pub left: u8,
     pub right: u8,

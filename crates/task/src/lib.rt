@@ -1,9 +1,11 @@
 // The task file (01, "The task file" and "Turned back, in checking order"): bytes in, two models, a matching and the
 // history's size or a refusal out.
+#![tactic(auto)]
+
 use fra::{Side, Task};
 
 // What is due after the records read so far.
-#[derive(Drop)]
+#[derive(Clone, Copy)]
 pub enum Stage {
     // the left header
     Start,
@@ -20,27 +22,27 @@ pub enum Stage {
 }
 
 // The task as far as it is read.
-#[derive(Drop)]
+#[derive(Clone, Copy)]
 pub struct Progress {
     pub stage: Stage,
     pub task: Task,
 }
 
 // What one record does: the progress after it, or its refusal, 0 for none, beside the progress before it.
-#[derive(Drop)]
+#[derive(Clone, Copy)]
 pub struct Stepped {
     pub refusal: u8,
     pub progress: Progress,
 }
 
-#[derive(Drop)]
+#[derive(Clone, Copy)]
 pub enum Answer {
     Read,
     Refused(u8),
 }
 
 // A task that was read, or a refusal's number beside a task that holds nothing.
-#[derive(Drop)]
+#[derive(Clone, Copy)]
 pub struct TaskRead {
     pub answer: Answer,
     pub task: Task,

@@ -1,4 +1,6 @@
 // What a record can do: refuse, or take the task to the next stage.
+#![tactic(auto)]
+
 ghost use Rattle.std.specs.Prelude.{◌≡◌};
 ghost use Rattle.task.specs.TaskFile.{next, refuse, with_model};
 

@@ -1,6 +1,8 @@
 // The task reader (01, "The task file"): bytes in, both models and the start position or a refusal out.
 //
 // A new kind of record is a variant of `Kind` with its byte, its length and its step, below.
+#![tactic(auto)]
+
 ghost use Rattle.std.specs.Prelude.{◌≡◌};
 ghost use Rattle.task.specs.TaskFile.{record_kind, body_length, step, no_task, refused, at_start, at_end, read_task};
 ghost use Rattle.task_progress.specs.Due.{Due};
@@ -12,7 +14,7 @@ use task_edges::edge;
 use task_models::{header, state};
 use task_pairs::{end, history, pair};
 
-#[derive(Drop)]
+#[derive(Clone, Copy)]
 pub enum Kind {
     Header,
     State,
@@ -23,7 +25,7 @@ pub enum Kind {
 }
 
 // What a kind byte announces.
-#[derive(Drop)]
+#[derive(Clone, Copy)]
 pub enum KindByte {
     Of(Kind),
     Unknown,

@@ -1,4 +1,6 @@
 // What the programs `compare` and `compare_one_way` print (01, "Sample pairs"), line by line in a lent buffer.
+#![tactic(auto)]
+
 ghost use Rattle.std.specs.Prelude.{◌+◌, ◌/◌, ◌≤◌, ◌≡◌, length, take};
 ghost use Rattle.std.proofs.lemmas.List.Edits.{sets};
 ghost use Rattle.outcome.specs.Verdicts.{width_of};

@@ -152,10 +152,10 @@ left-found i (x ∷ xs) j h = step (eqb x j) refl (left-found (suc i) xs j)
         (suc w.0, rw (e, left_partner) (omega (arith, w.1)), w.2)
 
 -- and there is one, where a left register has that partner
-left-exists : (i : ℕ) {j : ℕ} {l : List ℕ} → 1 ≤ i → j ∈ l → 1 ≤ left_partner i l j
+left-exists : {j : ℕ} (i : ℕ) {l : List ℕ} → 1 ≤ i → j ∈ l → 1 ≤ left_partner i l j
 unfolding left_partner
-left-exists i {j} p (Memᴰ.head {x = x} e) = rw (eq-eqb x j (sym e), left_partner) p
-left-exists i {j} p (Memᴰ.tail {x = x} {xs = xs} m) = step (eqb x j) refl (left-exists (suc i) (omega arith) m)
+left-exists {j} i p (Memᴰ.head {x = x} e) = rw (eq-eqb x j (sym e), left_partner) p
+left-exists {j} i p (Memᴰ.tail {x = x} {xs = xs} m) = step (eqb x j) refl (left-exists (suc i) (omega arith) m)
   where
     step : (b : Bool) → eqb x j ≡ b → 1 ≤ left_partner (suc i) xs j → 1 ≤ left_partner i (x ∷ xs) j
     step true e rest = rw (e, left_partner) p

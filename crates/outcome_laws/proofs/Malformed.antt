@@ -1,7 +1,7 @@
 -- The checker's first answer: refusal 13 exactly at the malformed certificates. Every other certificate is whole records of
 -- one kind with legal positions that rise, and the answer is 14 or acceptance. Assumes nothing.
 use Prim.Native.Nat.{ℕ, suc}
-use mathlib.Core.Path.{◌≡◌, refl, sym, ◌∙◌, ap}
+use mathlib.Core.Path.{◌≡◌, refl, sym, ◌∙◌, ap, subst}
 use mathlib.Core.Logic.{◌⊎◌, inl, inr, ⊎_elim, ◌≢◌, ◌↔◌}
 use mathlib.Core.Bool.{Bool, true, false}
 use mathlib.Core.List.Memᴰ
@@ -123,7 +123,8 @@ module _ (r : ℕ) (c : Contest) (t : Task) where
         step kind₁ size₁ j (b ∷ cs) v e =
             let f = first kind₁ bs (b ++ records kind₁ cs ++ rest) e in
             let g = kind-size (rw f at j) k in
-            let (ds, h, i) = records_front kind size (b ∷ cs) bs rest (rw g at v) w (rw f at e) in
+            let (ds, h, i) = records_front kind size (b ∷ cs) bs rest (rw g at v) w
+            (subst (λ (x : ℕ). records kind bs ≡ records x (b ∷ cs) ++ rest) f e) in
             (ds, (λ d m. w d (rw h (Memᴰ.append_right (b ∷ cs) m))), h, i, λ n. f)
 
     whole_malformed : {kind size : ℕ} (k : Kind r c kind size) (bs : List (List ℕ)) → Whole size bs

@@ -57,7 +57,7 @@ paired-later (pair a b) l j h = or_right (eqb b j) (paired l j) h
 paired-later (history n) l j h = h
 paired-later end l j h = h
 
-paired_intro : {l : List Record} {a j : ℕ} → pair a j ∈ l → paired l j ≡ true
+paired_intro : {j a : ℕ} {l : List Record} → pair a j ∈ l → paired l j ≡ true
 unfolding paired
 paired_intro {j = j} (Memᴰ.head {xs = l} e) = rw (← e) (or_left (eqb j j) (paired l j) (eq-eqb j j refl))
 paired_intro {j = j} (Memᴰ.tail {x = x} {xs = l} m) = paired-later x l j (paired_intro m)

@@ -5,35 +5,35 @@ use Rattle.game_moves.specs.IdCases.{has_case_in}
 use Rattle.game_moves.proofs.cases.has_case.Statement.{statement}
 use Rattle.game_moves.proofs.cases.has_case.Tie as tie
 
-returns : tie.Need-returns
+returns : tie.Need-returns-in-Held
 unfolding has_case_in
-returns c = rw (c.before.enum_told.given.1, c.is-fresh.ensures)
+returns c = rw (c.in-Held.is, c.is_fresh.ensures)
 
-returns-2 : tie.Need-returns-2
+returns-2 : tie.Need-returns-then-is_locally_fresh
 unfolding has_case_in
 returns-2 c =
     let first = c.before.before.before in
     rw (
-      first.before.before.case.given.1,
-      sym first.is-locally-fresh.ensures ∙ c.before.before.if1.true,
+      first.in-Private.is,
+      sym first.is_locally_fresh.ensures ∙ c.if-is_locally_fresh.true,
       c.unpartnered.ensures,
-      c.before.other.ensures,
+      c.other.ensures,
     )
 
-returns-3 : tie.Need-returns-3
+returns-3 : tie.Need-returns-else-is_locally_fresh
 unfolding has_case_in
-returns-3 c = rw (c.before.before.before.case.given.1, c.if1.false, sym c.before.is-locally-fresh.ensures ∙ c.if1.false)
+returns-3 c = rw (c.in-Private.is, c.if-is_locally_fresh.false, sym c.is_locally_fresh.ensures ∙ c.if-is_locally_fresh.false)
 
-returns-4 : tie.Need-returns-4
+returns-4 : tie.Need-returns-in-Seen
 unfolding has_case_in
-returns-4 c = rw (c.before.enum-told2.given.1, c.is-locally-fresh2.ensures)
+returns-4 c = rw (c.in-Seen.is, c.is_locally_fresh-in-Seen.ensures)
 
-returns-5 : tie.Need-returns-5
+returns-5 : tie.Need-returns-in-New
 unfolding has_case_in
-returns-5 c = rw (c.before.enum-told3.given.1, c.is-fresh2.ensures)
+returns-5 c = rw (c.in-New.is, c.is_fresh-in-New.ensures)
 
-pub has-case-spec : {M : Type 1} → statement M
-has-case-spec =
+pub has_case_spec : {M : Type 1} → statement M
+has_case_spec =
     tie.close
     (tie.spec
     (λ c. search rules)

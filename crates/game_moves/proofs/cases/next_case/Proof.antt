@@ -10,46 +10,46 @@ use Rattle.game_moves.proofs.IdCases.{case-here, case-later, case_none}
 use Rattle.game_moves.proofs.cases.next_case.Statement.{statement}
 use Rattle.game_moves.proofs.cases.next_case.Tie as tie
 
-abbrev invariant-loop : tie.invariant-loop
+abbrev invariant-loop : tie.invariant-loop-n
 invariant-loop p side kind others room from n₀ n = case_from others room p side kind from ≡ case_from others room p side kind n
 
-abbrev decreases-loop : tie.decreases-loop
+abbrev decreases-loop : tie.decreases-loop-n
 decreases-loop p side kind others room from n₀ n = 9 - n
 
-loop-holds : tie.Need-loop-init invariant-loop decreases-loop
+loop-holds : tie.Need-loop-n-init invariant-loop decreases-loop
 loop-holds c = refl
 
-returns : tie.Need-returns invariant-loop decreases-loop
+returns : tie.Need-returns-then-has_case invariant-loop decreases-loop
 returns c =
     let here = c.before.before.before.before in
-    let a = here.before.args in
+    let a = here.args in
     let long : length a.p.partners ≡ 6 = search rules in
-    let named = c.before.before.case-of.ensures in
+    let named = c.case_of-case.ensures in
     rw named
     (sym
-    (here.loop.invariant
-    ∙ case-here 6 a.others a.room a.p a.side a.kind here.loop.n long (omega arith)
-    (rw (← named) (sym c.before.has-case.ensures ∙ c.if1.true))))
+    (here.loop-n.invariant
+    ∙ case-here 6 a.others a.room a.p a.side a.kind here.loop-n.n long (omega arith)
+    (rw (← named) (sym c.has_case.ensures ∙ c.if-has_case.true))))
 
-loop-again : tie.Need-loop-preserved invariant-loop decreases-loop
+loop-again : tie.Need-loop-n-preserved invariant-loop decreases-loop
 loop-again c =
     let here = c.before.before.before.before in
-    let a = here.before.args in
+    let a = here.args in
     let long : length a.p.partners ≡ 6 = search rules in
-    here.loop.invariant
-    ∙ case-later 6 a.others a.room a.p a.side a.kind here.loop.n long (omega arith)
-    (rw (← c.before.before.case-of.ensures) (sym c.before.has-case.ensures ∙ c.if1.false))
+    here.loop-n.invariant
+    ∙ case-later 6 a.others a.room a.p a.side a.kind here.loop-n.n long (omega arith)
+    (rw (← c.case_of-case.ensures) (sym c.has_case.ensures ∙ c.if-has_case.false))
 
-returns-2 : tie.Need-returns-2 invariant-loop decreases-loop
+returns-2 : tie.Need-returns invariant-loop decreases-loop
 returns-2 c =
-    let a = c.before.before.args in
+    let a = c.args in
     let long : length a.p.partners ≡ 6 = search rules in
     sym
-    (c.before.loop.invariant
-    ∙ case_none 6 a.others a.room a.p a.side a.kind c.before.loop.n long (omega arith))
+    (c.loop-n.invariant
+    ∙ case_none 6 a.others a.room a.p a.side a.kind c.loop-n.n long (omega arith))
 
-pub next-case-spec : {M : Type 1} → statement M
-next-case-spec =
+pub next_case_spec : {M : Type 1} → statement M
+next_case_spec =
     tie.close
     (tie.spec
     invariant-loop

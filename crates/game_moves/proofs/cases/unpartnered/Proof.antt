@@ -4,11 +4,13 @@ use borrow.Author.Rules.{rules}
 use Rattle.game_moves.proofs.cases.unpartnered.Statement.{statement}
 use Rattle.game_moves.proofs.cases.unpartnered.Tie as tie
 
-returns : tie.Need-returns
-returns c = rw (sym c.before.before.has.ensures ∙ c.before.if1.true, c.partner.ensures)
+returns : tie.Need-returns-then-has
+returns c = rw (sym c.has.ensures ∙ c.if-has.true, c.partner.ensures)
 
-returns-2 : tie.Need-returns-2
-returns-2 c = rw (c.if1.false, sym c.before.has.ensures ∙ c.if1.false)
+returns-2 : tie.Need-returns-else-has
+returns-2 c = rw (c.if-has.false, sym c.has.ensures ∙ c.if-has.false)
 
-pub unpartnered-spec : {M : Type 1} → statement M
-unpartnered-spec = tie.close (tie.spec (λ c κs. search rules) (λ c κs. search rules) returns returns-2)
+pub unpartnered_spec : {M : Type 1} → statement M
+unpartnered_spec =
+    tie.close
+    (tie.spec (λ c κs. search rules) (λ c κs. search rules) returns returns-2)

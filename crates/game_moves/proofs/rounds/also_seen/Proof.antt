@@ -4,7 +4,9 @@ use Rattle.game_moves.proofs.rounds.also_seen.Statement.{statement}
 use Rattle.game_moves.proofs.rounds.also_seen.Tie as tie
 
 returns : tie.Need-returns
-returns c = rw (c.before.is-locally-fresh.ensures, c.is-locally-fresh2.ensures)
+returns c = rw (c.is_locally_fresh.ensures, c.is_locally_fresh-2.ensures)
 
-pub also-seen-spec : {M : Type 1} → statement M
-also-seen-spec = tie.close (tie.spec (λ c κs. search rules) (λ c κs. search rules) returns)
+pub also_seen_spec : {M : Type 1} → statement M
+also_seen_spec =
+    tie.close
+    (tie.spec (λ c κs. search rules) (λ c κs. search rules) returns)

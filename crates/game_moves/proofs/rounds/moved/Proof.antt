@@ -11,37 +11,37 @@ use Rattle.game_moves.proofs.Matchings.{matched-more, matched-all}
 use Rattle.game_moves.proofs.rounds.moved.Statement.{statement}
 use Rattle.game_moves.proofs.rounds.moved.Tie as tie
 
-abbrev invariant-loop : tie.invariant-loop
+abbrev invariant-loop : tie.invariant-loop-i
 invariant-loop size left right before partners₀ i₀ partners i =
     (i ≤ 6)
     × (length before ≡ 6)
     × (length partners ≡ 6)
     × (take i partners ≡ take i (matched left.set right.set left.register right.register 1 before))
 
-abbrev decreases-loop : tie.decreases-loop
+abbrev decreases-loop : tie.decreases-loop-i
 decreases-loop size left right before partners₀ i₀ partners i = 6 - i
 
-loop-holds : tie.Need-loop-init invariant-loop decreases-loop
+loop-holds : tie.Need-loop-i-init invariant-loop decreases-loop
 loop-holds c = (search rules, search rules, refl, refl)
 
-loop-again : tie.Need-loop-preserved invariant-loop decreases-loop
+loop-again : tie.Need-loop-i-preserved invariant-loop decreases-loop
 loop-again c =
     let here = c.before.before.before in
-    let a = here.before.before.args in
-    let (i, old, long, same) = here.loop.invariant in
-    let more = matched-more a.left.set a.right.set a.left.register a.right.register a.p.partners here.loop.partners here.loop.i (omega arith) same (omega arith) in
-    (omega arith, old, simp length-set long, rw (c.remaining.ensures, c.before.rejoined.ensures) more)
+    let a = here.args in
+    let (i, old, long, same) = here.loop-i.invariant in
+    let more = matched-more a.left.set a.right.set a.left.register a.right.register a.p.partners here.loop-i.partners here.loop-i.i (omega arith) same (omega arith) in
+    (omega arith, old, simp length-set long, rw (c.remaining.ensures, c.rejoined-x.ensures) more)
 
 returns : tie.Need-returns invariant-loop decreases-loop
 unfolding moved_to
 returns c =
-    let a = c.before.before.before.args in
-    let (i, old, long, same) = c.before.loop.invariant in
-    let e = matched-all a.left.set a.right.set a.left.register a.right.register a.p.partners c.before.loop.partners c.before.loop.i (omega arith) same (omega arith) in
+    let a = c.args in
+    let (i, old, long, same) = c.loop-i.invariant in
+    let e = matched-all a.left.set a.right.set a.left.register a.right.register a.p.partners c.loop-i.partners c.loop-i.i (omega arith) same (omega arith) in
     rw e
 
-pub moved-spec : {M : Type 1} → statement M
-moved-spec =
+pub moved_spec : {M : Type 1} → statement M
+moved_spec =
     tie.close
     (tie.spec
     invariant-loop

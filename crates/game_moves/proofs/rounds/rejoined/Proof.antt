@@ -4,17 +4,19 @@ use Rattle.fra.specs.Game.{rejoined}
 use Rattle.game_moves.proofs.rounds.rejoined.Statement.{statement}
 use Rattle.game_moves.proofs.rounds.rejoined.Tie as tie
 
-returns : tie.Need-returns
+returns : tie.Need-returns-then-i-a
 unfolding rejoined
-returns c = rw (eq-eqb _ _ c.if1.true)
+returns c = rw (eq-eqb _ _ c.if-i-a.true)
 
-returns-2 : tie.Need-returns-2
+returns-2 : tie.Need-returns-then-x-b
 unfolding rejoined
-returns-2 c = rw (ne_eqb _ _ c.before.if1.false, eq-eqb _ _ c.if2.true)
+returns-2 c = rw (ne_eqb _ _ c.if-i-a.false, eq-eqb _ _ c.if-x-b.true)
 
-returns-3 : tie.Need-returns-3
+returns-3 : tie.Need-returns-else-x-b
 unfolding rejoined
-returns-3 c = rw (ne_eqb _ _ c.before.if1.false, ne_eqb _ _ c.if2.false)
+returns-3 c = rw (ne_eqb _ _ c.if-i-a.false, ne_eqb _ _ c.if-x-b.false)
 
-pub rejoined-spec : {M : Type 1} → statement M
-rejoined-spec = tie.close (tie.spec returns returns-2 returns-3)
+pub rejoined_spec : {M : Type 1} → statement M
+rejoined_spec =
+    tie.close
+    (tie.spec returns returns-2 returns-3)

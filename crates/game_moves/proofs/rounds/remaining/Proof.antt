@@ -7,13 +7,15 @@ use Rattle.fra.specs.Game.{remaining}
 use Rattle.game_moves.proofs.rounds.remaining.Statement.{statement}
 use Rattle.game_moves.proofs.rounds.remaining.Tie as tie
 
-mul-result : tie.Need-overflow-mul-result
-mul-result c = search (rules, times_test-most (c.before.has.result && c.has2.result) c.before.before.args.x)
+mul-result : tie.Need-overflow_mul-result
+mul-result c = search (rules, times_test-most (c.has.result && c.has-2.result) c.args.x)
 
 returns : tie.Need-returns
 unfolding remaining
 returns c =
-    rw (← c.before.has.ensures, ← c.has2.ensures) (times_test (c.before.has.result && c.has2.result) c.before.before.args.x)
+    rw (← c.has.ensures, ← c.has-2.ensures) (times_test (c.has.result && c.has-2.result) c.args.x)
 
-pub remaining-spec : {M : Type 1} → statement M
-remaining-spec = tie.close (tie.spec (λ c κs. search rules) (λ c κs. search rules) (λ c. search rules) mul-result returns)
+pub remaining_spec : {M : Type 1} → statement M
+remaining_spec =
+    tie.close
+    (tie.spec (λ c κs. search rules) (λ c κs. search rules) (λ c. search rules) mul-result returns)

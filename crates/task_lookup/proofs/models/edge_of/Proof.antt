@@ -8,15 +8,17 @@ use Rattle.fra_laws.proofs.Lengths.{length-of-map}
 use Rattle.task_lookup.proofs.models.edge_of.Statement.{statement}
 use Rattle.task_lookup.proofs.models.edge_of.Tie as tie
 
-returns : tie.Need-returns
+returns : tie.Need-returns-then-k-lt-EDGES
 unfolding edge_of
 returns c = refl
 
-returns-2 : tie.Need-returns-2
+returns-2 : tie.Need-returns-else-k-lt-EDGES
 unfolding edge_of
 returns-2 c =
-    let long : length c.before.args.t1.edges ≡ 64 = search (rules, length-of-map) in
-    rw (get_or-eq_default c.before.args.t1.edges no_edge {n = c.before.args.k} (omega arith))
+    let long : length c.args.m.edges ≡ 64 = search (rules, length-of-map) in
+    rw (get_or-eq_default c.args.m.edges no_edge {n = c.args.k} (omega arith))
 
-pub edge-of-spec : {M : Type 1} → statement M
-edge-of-spec = tie.close (tie.spec (λ c. search rules) (λ c. search rules) returns returns-2)
+pub edge_of_spec : {M : Type 1} → statement M
+edge_of_spec =
+    tie.close
+    (tie.spec (λ c. search rules) (λ c. search rules) returns returns-2)

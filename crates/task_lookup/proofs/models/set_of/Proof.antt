@@ -8,15 +8,17 @@ use Rattle.fra_laws.proofs.Lengths.{length-of-map}
 use Rattle.task_lookup.proofs.models.set_of.Statement.{statement}
 use Rattle.task_lookup.proofs.models.set_of.Tie as tie
 
-returns : tie.Need-returns
+returns : tie.Need-returns-then-q-lt-STATES
 unfolding set_of
 returns c = refl
 
-returns-2 : tie.Need-returns-2
+returns-2 : tie.Need-returns-else-q-lt-STATES
 unfolding set_of
 returns-2 c =
-    let long : length c.before.args.t1.states ≡ 16 = search (rules, length-of-map) in
-    rw (get_or-eq_default c.before.args.t1.states no_state {n = c.before.args.q} (omega arith))
+    let long : length c.args.m.states ≡ 16 = search (rules, length-of-map) in
+    rw (get_or-eq_default c.args.m.states no_state {n = c.args.q} (omega arith))
 
-pub set-of-spec : {M : Type 1} → statement M
-set-of-spec = tie.close (tie.spec (λ c. search rules) (λ c. search rules) returns returns-2)
+pub set_of_spec : {M : Type 1} → statement M
+set_of_spec =
+    tie.close
+    (tie.spec (λ c. search rules) (λ c. search rules) returns returns-2)

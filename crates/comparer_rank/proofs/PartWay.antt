@@ -3,7 +3,7 @@
 use Prim.Native.Nat.{ℕ, suc, ◌+◌, ◌*◌, ◌-◌, ◌^◌, ◌≤◌, ◌<◌}
 use mathlib.Core.Path.{◌≡◌, refl, sym, ◌∙◌, ap}
 use mathlib.Core.Logic.{◌⊎◌, ⊎_elim}
-use mathlib.Core.Bool.{Bool, true, false, cond, ◌&&◌, and_false}
+use mathlib.Core.Bool.{Bool, true, false, cond, ◌&&◌, and-false}
 use mathlib.Core.List.{List, ◌++◌}
 use native.Mathlib.Numerals.{add-one}
 use native.Mathlib.Omega.{arith}
@@ -174,7 +174,7 @@ module _ {b : List ℕ} (index : Index b) where
           step : (c : Bool) → lost_within g t k q ≡ c
               → has_pair losing q.left q.right && lost_within g t k q ≡ lost_within g t k q
           step true e = rw (covers-lost q m e)
-          step false e = rw e (and_false (has_pair losing q.left q.right))
+          step false e = rw e (and-false (has_pair losing q.left q.right))
 
       module _ (z : Position) (c : i < n) where
         abbrev p : Position

@@ -3,7 +3,7 @@
 use Prim.Native.Nat.{ℕ, zero, suc, ◌-◌, ◌≤◌, ◌<◌}
 use mathlib.Core.Path.{◌≡◌, sym, subst}
 use mathlib.Core.Logic.{◌⊎◌, inl, inr}
-use mathlib.Core.Bool.{Bool, true, ◌&&◌, and_false}
+use mathlib.Core.Bool.{Bool, true, ◌&&◌, and-false}
 use mathlib.Core.List.{List, ◌∷◌}
 use native.Mathlib.Omega.{arith}
 use native.Mathlib.Decide.{dec_lt}
@@ -173,7 +173,7 @@ module _ {m : Model} (v : IndexableModel m) (sized : Sized m) where
             let kind = kind_bound (edge_of m k).kind in
             (omega arith, omega arith))))
         step (yes h) (no i) =
-            rw (le-ltb tag tag_places (omega arith), and_false)
+            rw (le-ltb tag tag_places (omega arith), and-false)
             (sym (keep_none test m.edge_count (λ k b t. omega (arith, v.tags k b, (of-tag m q tag k b t).tagged))))
         step (no h) d =
             rw (le-ltb q state_places (omega arith))

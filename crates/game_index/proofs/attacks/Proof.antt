@@ -4,7 +4,9 @@ use Rattle.game_index.proofs.attacks.Statement.{statement}
 use Rattle.game_index.proofs.attacks.Tie as tie
 
 returns : tie.Need-returns
-returns c = rw c.before.game.ensures at c.attacks.ensures
+returns c = rw c.game-game.ensures at c.attacks.ensures
 
-pub attacks-spec : {M : Type 1} → statement M
-attacks-spec = tie.close (tie.spec (λ c κs. search rules) (λ c κs. search rules) returns)
+pub attacks_spec : {M : Type 1} → statement M
+attacks_spec =
+    tie.close
+    (tie.spec (λ c κs. search rules) (λ c κs. search rules) returns)

@@ -3,14 +3,14 @@ use borrow.Author.Rules.{rules}
 use Rattle.game_index.proofs.byte_of.Statement.{statement}
 use Rattle.game_index.proofs.byte_of.Tie as tie
 
-returns : tie.Need-returns
-returns c = rw c.before.enum_told.given.1
+returns : tie.Need-returns-in-Left
+returns c = rw c.in-Left.is
 
-returns-2 : tie.Need-returns-2
-returns-2 c = rw c.before.enum-told2.given.1
+returns-2 : tie.Need-returns-in-Right
+returns-2 c = rw c.in-Right.is
 
-pub byte-of-spec : {M : Type 1} → statement M
-byte-of-spec =
+pub byte_of_spec : {M : Type 1} → statement M
+byte_of_spec =
     tie.close
     (tie.spec
     (λ c. search rules)

@@ -14,11 +14,11 @@ flag_one false = refl
 
 returns : tie.Need-returns
 returns c =
-    let a = c.before.args in
-    ap (λ (n : ℕ). eqb n 1) (c.byte_of.ensures ∙ c.before.requires.0.dropped a.side a.k c.before.requires.1) ∙ flag_one _
+    let a = c.args in
+    ap (λ (n : ℕ). eqb n 1) (c.byte_of.ensures ∙ c.requires.0.dropped a.side a.k c.requires.1) ∙ flag_one _
 
-pub drops-at-spec : {M : Type 1} → statement M
-drops-at-spec =
+pub drops_at_spec : {M : Type 1} → statement M
+drops_at_spec =
     tie.close
     (tie.spec
     (λ c. search rules)

@@ -6,18 +6,18 @@ use Rattle.game_index.proofs.Reading.{edge_in_lem, no_edge_lem}
 use Rattle.game_index.proofs.edge_at.Statement.{statement}
 use Rattle.game_index.proofs.edge_at.Tie as tie
 
-returns : tie.Need-returns
-returns c = sym (no_edge_lem _ _ _ c.if1.true)
+returns : tie.Need-returns-then-k-ge-EDGES
+returns c = sym (no_edge_lem _ _ _ c.if-k-ge-EDGES.true)
 
-returns-2 : tie.Need-returns-2
+returns-2 : tie.Need-returns
 returns-2 c =
     let made = c.before.before.before in
-    let exists = made.before.if1.false in
-    rw (made.kind_at.ensures, edge_in_lem _ _ _ exists)
-    (rw (c.before.before.byte_of.ensures, c.before.byte-of2.ensures, c.byte-of3.ensures, add-zero))
+    let exists = made.if-k-ge-EDGES.false in
+    rw (made.kind_at-kind.ensures, edge_in_lem _ _ _ exists)
+    (rw (c.byte_of.ensures, c.byte_of-2.ensures, c.byte_of-3.ensures, add-zero))
 
-pub edge-at-spec : {M : Type 1} → statement M
-edge-at-spec =
+pub edge_at_spec : {M : Type 1} → statement M
+edge_at_spec =
     tie.close
     (tie.spec
     returns

@@ -8,5 +8,7 @@ returns : tie.Need-returns
 unfolding model_in
 returns c = c.byte_of.ensures
 
-pub edge-count-spec : {M : Type 1} → statement M
-edge-count-spec = tie.close (tie.spec (λ c κs. search rules) returns)
+pub edge_count_spec : {M : Type 1} → statement M
+edge_count_spec =
+    tie.close
+    (tie.spec (λ c κs. search rules) returns)

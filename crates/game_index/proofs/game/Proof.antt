@@ -8,5 +8,7 @@ returns : tie.Need-returns
 unfolding game_in
 returns c = c.of.ensures
 
-pub game-spec : {M : Type 1} → statement M
-game-spec = tie.close (tie.spec (λ c. search rules) (λ c κs. search rules) returns)
+pub game_spec : {M : Type 1} → statement M
+game_spec =
+    tie.close
+    (tie.spec (λ c. search rules) (λ c κs. search rules) returns)

@@ -7,7 +7,9 @@ use Rattle.game_index.proofs.has_room.Tie as tie
 
 returns : tie.Need-returns
 unfolding has_room task_in
-returns c = rw (c.before.set-of2.ensures, c.before.before.set-of.ensures) at c.has_room.ensures
+returns c = rw (c.set_of-right.ensures, c.set_of-left.ensures) at c.has_room.ensures
 
-pub has-room-spec : {M : Type 1} → statement M
-has-room-spec = tie.close (tie.spec (λ c κs. search rules) (λ c κs. search rules) (λ c κs. search rules) returns)
+pub has_room_spec : {M : Type 1} → statement M
+has_room_spec =
+    tie.close
+    (tie.spec (λ c κs. search rules) (λ c κs. search rules) (λ c κs. search rules) returns)

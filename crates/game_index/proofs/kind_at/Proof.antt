@@ -7,10 +7,10 @@ use Rattle.game_index.proofs.kind_at.Tie as tie
 returns : tie.Need-returns
 returns c =
     let read = c.before.before in
-    rw (edge_in_lem _ _ _ read.before.requires) (rw (c.of.ensures, read.byte_of.ensures, c.before.byte-of2.ensures))
+    rw (edge_in_lem _ _ _ read.requires) (rw (c.of.ensures, read.byte_of-number.ensures, c.byte_of.ensures))
 
-pub kind-at-spec : {M : Type 1} → statement M
-kind-at-spec =
+pub kind_at_spec : {M : Type 1} → statement M
+kind_at_spec =
     tie.close
     (tie.spec
     (λ c. search rules)

@@ -9,9 +9,9 @@ returns : tie.Need-returns
 unfolding lost_at_once task_in
 returns c =
     let played = c.before in
-    rw (played.game.ensures, played.before.mark-of2.ensures, played.before.before.mark_of.ensures) at c.loses.ensures
+    rw (played.game-game.ensures, played.mark_of-right.ensures, played.mark_of-left.ensures) at c.loses.ensures
 
-pub lost-at-once-spec : {M : Type 1} → statement M
-lost-at-once-spec =
+pub lost_at_once_spec : {M : Type 1} → statement M
+lost_at_once_spec =
     tie.close
     (tie.spec (λ c κs. search rules) (λ c κs. search rules) (λ c κs. search rules) (λ c κs. search rules) returns)

@@ -8,5 +8,7 @@ returns : tie.Need-returns
 unfolding model_in
 returns c = c.byte_of.ensures
 
-pub register-count-spec : {M : Type 1} → statement M
-register-count-spec = tie.close (tie.spec (λ c κs. search rules) returns)
+pub register_count_spec : {M : Type 1} → statement M
+register_count_spec =
+    tie.close
+    (tie.spec (λ c κs. search rules) returns)

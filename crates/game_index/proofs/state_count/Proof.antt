@@ -8,5 +8,7 @@ returns : tie.Need-returns
 unfolding model_in
 returns c = c.byte_of.ensures
 
-pub state-count-spec : {M : Type 1} → statement M
-state-count-spec = tie.close (tie.spec (λ c κs. search rules) returns)
+pub state_count_spec : {M : Type 1} → statement M
+state_count_spec =
+    tie.close
+    (tie.spec (λ c κs. search rules) returns)

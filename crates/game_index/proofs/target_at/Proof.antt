@@ -12,12 +12,12 @@ returns c =
     let start = read.before in
     let a = start.args in
     let exists = start.requires.1 in
-    let set = c.byte-of3.ensures ∙ start.requires.0.to_sets a.side a.k exists in
-    rw (read.byte_of.ensures, c.before.byte-of2.ensures, set)
+    let set = c.byte_of-3.ensures ∙ start.requires.0.to_sets a.side a.k exists in
+    rw (read.byte_of.ensures, c.byte_of-2.ensures, set)
     (rw (edge_in_lem a.index.now a.side a.k exists, register_of-kind))
 
-pub target-at-spec : {M : Type 1} → statement M
-target-at-spec =
+pub target_at_spec : {M : Type 1} → statement M
+target_at_spec =
     tie.close
     (tie.spec
     (λ c. search rules)

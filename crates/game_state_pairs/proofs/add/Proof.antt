@@ -7,4 +7,6 @@ returns : tie.Need-returns
 returns c = rw c.place.ensures.0
 
 pub add_spec : {M : Type 1} → statement M
-add_spec = tie.close (tie.spec (λ c κs. search rules) (λ c. search rules) returns)
+add_spec =
+    tie.close
+    (tie.spec (λ c κs. search rules) (λ c. search rules) returns)

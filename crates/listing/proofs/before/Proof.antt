@@ -31,9 +31,11 @@ returns c =
     let long = bytes-length p left ∙ sym (bytes-length q right) in
     let (a, b) = small start in
     c.below.ensures
-    ∙ rw (second.before.of.ensures, second.of2.ensures, position-number p left, position-number q right)
+    ∙ rw (second.of.ensures, second.of-2.ensures, position-number p left, position-number q right)
     (same_test _ _ (λ h. (value-order 256 0 (bytes p) (bytes q) long a b).0 (ltb-true _ _ h))
     (λ h. lt-ltb _ _ (value-below 256 0 (bytes p) (bytes q) long a b h)))
 
-pub before-spec : {M : Type 1} → statement M
-before-spec = tie.close (tie.spec (λ c κs. search rules) (λ c κs. search rules) (λ c κs. search rules) returns)
+pub before_spec : {M : Type 1} → statement M
+before_spec =
+    tie.close
+    (tie.spec (λ c κs. search rules) (λ c κs. search rules) (λ c κs. search rules) returns)

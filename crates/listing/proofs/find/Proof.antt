@@ -24,77 +24,77 @@ six : (c : tie.Start) → length c.args.p.partners ≡ 6
 six c = search rules
 
 -- the number that is sought is the position's
-sought : (c : tie.After-of) → let start = c.before.before in
-    whole c.of.result ≡ value 256 0 (bytes start.args.p)
+sought : (c : tie.After-of-sought) → let start = c.before.before in
+    whole c.of-sought.result ≡ value 256 0 (bytes start.args.p)
 sought c =
     let start = c.before.before in
-    ap whole c.of.ensures ∙ position-number start.args.p (six start)
+    ap whole c.of-sought.ensures ∙ position-number start.args.p (six start)
 
 -- what stands where the search has ended
-module _ (c : tie.After-lower-bound) where
-  abbrev known : tie.After-shared-slice-known
+module _ (c : tie.After-lower_bound-at) where
+  abbrev known : tie.After-shared_slice_known-1
   known = c.before.before
 
-  bound : let a = known.before.args in
-      Bound a.records a.list.now (value 256 0 (bytes a.p)) c.lower-bound.result
+  bound : let a = known.args in
+      Bound a.records a.list.now (value 256 0 (bytes a.p)) c.lower_bound-at.result
   bound =
-      let a = known.before.args in
-      subst (λ (n : ℕ). Bound a.records a.list.now n c.lower-bound.result) (sought c.before)
-      c.lower-bound.ensures
+      let a = known.args in
+      subst (λ (n : ℕ). Bound a.records a.list.now n c.lower_bound-at.result) (sought c.before)
+      c.lower_bound-at.ensures
 
-  nowhere : let a = known.before.args in
-      (c.lower-bound.result < a.records.count
-      → number_at a.records a.list.now c.lower-bound.result ≡ whole c.before.of.result
+  nowhere : let a = known.args in
+      (c.lower_bound-at.result < a.records.count
+      → number_at a.records a.list.now c.lower_bound-at.result ≡ whole c.of-sought.result
       → ⊥)
       → Nowhere ≡ place_of a.p (positions_in a.records a.list.now)
   nowhere absent =
       let start = known.before in
       let a = start.args in
       sym
-      (found_nowhere a.records a.list.now start.pre (λ i. (known.shared-slice-known.given i).fits) a.p
+      (found_nowhere a.records a.list.now start.requires (λ i. (known.shared_slice_known-1.given i).fits) a.p
       (bytes-length a.p (six start))
       (small start)
-      c.lower-bound.result
+      c.lower_bound-at.result
       bound
       (λ h e. absent h (e ∙ sym (sought c.before))))
 
-  here : let a = known.before.args in
-      c.lower-bound.result < a.records.count
-      → number_at a.records a.list.now c.lower-bound.result ≡ whole c.before.of.result
-      → At c.lower-bound.result ≡ place_of a.p (positions_in a.records a.list.now)
+  here : let a = known.args in
+      c.lower_bound-at.result < a.records.count
+      → number_at a.records a.list.now c.lower_bound-at.result ≡ whole c.of-sought.result
+      → At c.lower_bound-at.result ≡ place_of a.p (positions_in a.records a.list.now)
   here h e =
       let start = known.before in
       let a = start.args in
       sym
-      (found_at a.records a.list.now start.pre (λ i. (known.shared-slice-known.given i).fits) a.p
+      (found_at a.records a.list.now start.requires (λ i. (known.shared_slice_known-1.given i).fits) a.p
       (bytes-length a.p (six start))
       (small start)
-      c.lower-bound.result
+      c.lower_bound-at.result
       bound
       h
       (e ∙ sought c.before))
 
-room : (c : tie.Else1) → let ended = c.before.before in
-    let a = ended.before.before.before.args in
-    ended.lower-bound.result * a.records.width + a.records.width ≤ length a.list.now
+room : (c : tie.Else-records-at) → let ended = c.before.before in
+    let a = ended.args in
+    ended.lower_bound-at.result * a.records.width + a.records.width ≤ length a.list.now
 room c =
     let ended = c.before.before in
     let start = ended.before.before.before in
-    record_room start.args.records start.args.list.now start.requires.fitting ended.lower-bound.result c.if1.false
+    record_room start.args.records start.args.list.now start.requires.fitting ended.lower_bound-at.result c.if-records-at.false
 
-returns : tie.Need-returns
+returns : tie.Need-returns-then-records-at
 returns c = nowhere c.before.before (λ h e. omega arith)
 
-mul-number-at : tie.Need-overflow-mul-number-at
+mul-number-at : tie.Need-overflow_mul-at
 mul-number-at c = search (rules, room c.before)
 
-add-number-at : tie.Need-overflow-add-number-at
+add-number-at : tie.Need-overflow_add-at
 add-number-at c =
     let ended = c.before.before.before.before in
     let start = ended.before.before.before in
     search (rules, room c.before.before, start.requires.fitting.position)
 
-number-at-requires : tie.Need-number-at-requires
+number-at-requires : tie.Need-number_at-requires
 number-at-requires c κs =
     let ended = c.before.before.before.before in
     let start = ended.before.before.before in
@@ -102,29 +102,29 @@ number-at-requires c κs =
 
 -- the number that is read there is the sought one exactly if the test says so
 module _ (c : tie.After-equals) where
-  abbrev read : tie.After-number-at
+  abbrev read : tie.After-number_at
   read = c.before
 
-  abbrev else1 : tie.Else1
+  abbrev else1 : tie.Else-records-at
   else1 = read.before.before.before
 
   same : let ended = else1.before.before in
-      let a = ended.before.before.before.args in
+      let a = ended.args in
       c.equals.result
-      ≡ eqb (number_at a.records a.list.now ended.lower-bound.result) (whole ended.before.of.result)
+      ≡ eqb (number_at a.records a.list.now ended.lower_bound-at.result) (whole ended.of-sought.result)
   same =
       c.equals.ensures
-      ∙ ap (λ (n : Number). eqb (whole n) (whole else1.before.before.before.of.result)) read.number_at.ensures
+      ∙ ap (λ (n : Number). eqb (whole n) (whole else1.of-sought.result)) read.number_at.ensures
 
-returns-2 : tie.Need-returns-2
+returns-2 : tie.Need-returns-then-equals
 returns-2 c =
     let else1 = else1 c.before in
-    here else1.before.before else1.if1.left (eqb-true _ _ (sym (same c.before) ∙ c.if2.true))
+    here else1.before.before else1.if-records-at.false (eqb-true _ _ (sym (same c.before) ∙ c.if-equals.true))
 
-returns-3 : tie.Need-returns-3
+returns-3 : tie.Need-returns
 returns-3 c =
     let else1 = else1 c.before in
-    nowhere else1.before.before (λ h e. eqb-false _ _ (sym (same c.before) ∙ c.if2.false) e)
+    nowhere else1.before.before (λ h e. eqb-false _ _ (sym (same c.before) ∙ c.if-equals.false) e)
 
 pub find_spec : {M : Type 1} → statement M
 find_spec =

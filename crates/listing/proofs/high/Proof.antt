@@ -13,9 +13,11 @@ use Rattle.listing.proofs.high.Tie as tie
 returns : tie.Need-returns
 unfolding word_at bytes
 returns c =
-    let p = c.before.before.args.p in
+    let p = c.args.p in
     let six : length p.partners ≡ 6 = search rules in
     rw (partner-byte p 0 six (omega arith), partner-byte p 1 six (omega arith)) c.joined.ensures
 
-pub high-spec : {M : Type 1} → statement M
-high-spec = tie.close (tie.spec (λ c. search rules) (λ c. search rules) (λ c κs. search rules) returns)
+pub high_spec : {M : Type 1} → statement M
+high_spec =
+    tie.close
+    (tie.spec (λ c. search rules) (λ c. search rules) (λ c κs. search rules) returns)

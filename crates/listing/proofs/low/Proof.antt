@@ -11,7 +11,7 @@ use Rattle.listing.proofs.low.Tie as tie
 returns : tie.Need-returns
 unfolding word_at
 returns c =
-    let p = c.before.before.args.p in
+    let p = c.args.p in
     let six : length p.partners ≡ 6 = search rules in
     rw (
       partner-byte p 2 six (omega arith),
@@ -21,8 +21,8 @@ returns c =
     )
     c.joined.ensures
 
-pub low-spec : {M : Type 1} → statement M
-low-spec =
+pub low_spec : {M : Type 1} → statement M
+low_spec =
     tie.close
     (tie.spec
     (λ c. search rules)

@@ -14,18 +14,18 @@ unfolding number_in
 returns c =
     let second = c.before in
     let first = second.before in
-    let a = first.before.before.args in
+    let a = first.args in
     let l = a.list.now in
     rw (
       first.word_at.ensures,
-      second.word-at2.ensures,
+      second.word_at-2.ensures,
       two_words l a.at (omega arith),
       get_or-drop a.at l history_place 0,
     )
     refl
 
-pub number-at-spec : {M : Type 1} → statement M
-number-at-spec =
+pub number_at_spec : {M : Type 1} → statement M
+number_at_spec =
     tie.close
     (tie.spec
     (λ c κs. search rules)

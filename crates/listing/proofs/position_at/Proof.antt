@@ -11,20 +11,21 @@ use Rattle.listing.proofs.position_at.Tie as tie
 room : (c : tie.Start) → c.args.i * c.args.records.width + c.args.records.width ≤ length c.args.list.now
 room c = record_room c.args.records c.args.list.now c.requires.0 c.args.i c.requires.1
 
-mul-position-from : tie.Need-overflow-mul-position-from
+mul-position-from : tie.Need-overflow_mul-i
 mul-position-from c = search (rules, room c.before.before)
 
-add-position-from : tie.Need-overflow-add-position-from
-add-position-from c = search (rules, room c.before.before.before, c.before.before.before.requires.0.position)
+add-position-from : tie.Need-overflow_add-i
+add-position-from c = search (rules, room c.before.before.before, c.requires.0.position)
 
-position-from-requires : tie.Need-position-from-requires
-position-from-requires c κs = omega (arith, room c.before.before.before, c.before.before.before.requires.0.position)
+position-from-requires : tie.Need-position_from-requires
+position-from-requires c κs = omega (arith, room c.before.before.before, c.requires.0.position)
 
 returns : tie.Need-returns
 returns c =
-    let a = c.before.before.before.before.args in
-    rw (drop-drop a.records.position (a.i * a.records.width) a.list.now) c.position_from_lem.ensures
+    let a = c.args in
+    rw (drop-drop a.records.position (a.i * a.records.width) a.list.now) c.position_from.ensures
 
-pub position-at-spec : {M : Type 1} → statement M
-position-at-spec =
-    tie.close (tie.spec mul-position-from add-position-from position-from-requires returns)
+pub position_at_spec : {M : Type 1} → statement M
+position_at_spec =
+    tie.close
+    (tie.spec mul-position-from add-position-from position-from-requires returns)

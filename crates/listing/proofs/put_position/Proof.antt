@@ -14,11 +14,11 @@ six c = search rules
 numbers : (c : tie.Start) → Bytes (bytes c.args.p)
 numbers c = position-numbers c.args.p (search rules) (search rules) (λ i. search rules) (search rules)
 
-same_length : tie.Need-same-length
+same_length : tie.Need-shape_of-list
 same_length c =
     let second = c.before.before in
     let first = second.before.before.before.before.before in
-    simp length-set (second.put-word2.auto.0 ∙ first.put_word.auto.0)
+    simp length-set (second.put_word-2.auto.list ∙ first.put_word.auto.list)
 
 returns : tie.Need-returns
 returns c =
@@ -26,11 +26,11 @@ returns c =
     let first = second.before.before.before.before.before in
     let start = first.before.before.before.before in
     let a = start.args in
-    rw (second.put-word2.ensures, first.put_word.ensures, second.before.low.ensures, first.before.high.ensures)
+    rw (second.put_word-2.ensures, first.put_word.ensures, second.low.ensures, first.high.ensures)
     (position-written a.list.now a.at a.p (six start) (numbers start))
 
-pub put-position-spec : {M : Type 1} → statement M
-put-position-spec =
+pub put_position_spec : {M : Type 1} → statement M
+put_position_spec =
     tie.close
     (tie.spec
     (λ c κs. search rules)

@@ -10,14 +10,16 @@ use Rattle.listing.proofs.rounds_at.Tie as tie
 room : (c : tie.Start) → c.args.i * c.args.records.width + c.args.records.width ≤ length c.args.list.now
 room c = record_room c.args.records c.args.list.now c.requires.0 c.args.i c.requires.1
 
-mul-word-at : tie.Need-overflow-mul-word-at
+mul-word-at : tie.Need-overflow_mul-i
 mul-word-at c = search (rules, room c.before.before)
 
-add-word-at : tie.Need-overflow-add-word-at
-add-word-at c = search (rules, room c.before.before.before, c.before.before.before.requires.0.rounds)
+add-word-at : tie.Need-overflow_add-i
+add-word-at c = search (rules, room c.before.before.before, c.requires.0.rounds)
 
-word-at-requires : tie.Need-word-at-requires
-word-at-requires c κs = omega (arith, room c.before.before.before, c.before.before.before.requires.0.rounds)
+word-at-requires : tie.Need-word_at-requires
+word-at-requires c κs = omega (arith, room c.before.before.before, c.requires.0.rounds)
 
-pub rounds-at-spec : {M : Type 1} → statement M
-rounds-at-spec = tie.close (tie.spec mul-word-at add-word-at word-at-requires (λ c. search rules))
+pub rounds_at_spec : {M : Type 1} → statement M
+rounds_at_spec =
+    tie.close
+    (tie.spec mul-word-at add-word-at word-at-requires (λ c. search rules))

@@ -4,15 +4,17 @@ use Rattle.listing.proofs.PositionNumbers.{by_last, by_first}
 use Rattle.listing.proofs.Number.below.Statement.{statement}
 use Rattle.listing.proofs.Number.below.Tie as tie
 
-returns : tie.Need-returns
+returns : tie.Need-returns-then-self-other
 returns c =
-    let a = c.before.before.before.before.before.args in
+    let a = c.args in
     by_last a.self a.other (search rules)
 
-returns-2 : tie.Need-returns-2
+returns-2 : tie.Need-returns-else-self-other
 returns-2 c =
-    let a = c.before.before.before.before.before.args in
+    let a = c.args in
     by_first a.self a.other (search rules) (search rules) (search rules)
 
-pub below-spec : {M : Type 1} → statement M
-below-spec = tie.close (tie.spec returns returns-2)
+pub below_spec : {M : Type 1} → statement M
+below_spec =
+    tie.close
+    (tie.spec returns returns-2)

@@ -6,8 +6,10 @@ use Rattle.listing.proofs.Number.equals.Tie as tie
 
 returns : tie.Need-returns
 returns c =
-    let a = c.before.before.before.before.args in
+    let a = c.args in
     by_both a.self a.other (search rules) (search rules)
 
-pub equals-spec : {M : Type 1} → statement M
-equals-spec = tie.close (tie.spec returns)
+pub equals_spec : {M : Type 1} → statement M
+equals_spec =
+    tie.close
+    (tie.spec returns)

@@ -15,11 +15,11 @@ use Rattle.listing.proofs.Number.of.Tie as tie
 returns : tie.Need-returns
 unfolding number_in
 returns c =
-    let p = c.before.before.args.p in
+    let p = c.args.p in
     let six : length p.partners ≡ 6 = search rules in
     let words = two_words (bytes p) 0 (omega (arith, bytes-length p six)) in
-    let first : c.before.high.result * 2 ^ 32 + c.low.result ≡ value 256 0 (take history_place (bytes p)) =
-    rw (c.before.high.ensures, c.low.ensures) words in
+    let first : c.high.result * 2 ^ 32 + c.low.result ≡ value 256 0 (take history_place (bytes p)) =
+    rw (c.high.ensures, c.low.ensures) words in
     λ i. record { first = first i; last = sym (size-byte p six) i }
 
 pub of_spec : {M : Type 1} → statement M

@@ -4,19 +4,19 @@ use Rattle.fra.specs.Model.{edge_bytes}
 use Rattle.task_edges.proofs.edge.bytes_of.Statement.{statement}
 use Rattle.task_edges.proofs.edge.bytes_of.Tie as tie
 
-returns : tie.Need-returns
+returns : tie.Need-returns-in-Known
 unfolding edge_bytes
-returns c = rw c.before.kind.given.1
+returns c = rw c.in-Known.is
 
-returns-2 : tie.Need-returns-2
+returns-2 : tie.Need-returns-in-LocallyFresh
 unfolding edge_bytes
-returns-2 c = rw c.before.kind2.given.1
+returns-2 c = rw c.in-LocallyFresh.is
 
-returns-3 : tie.Need-returns-3
+returns-3 : tie.Need-returns-in-GloballyFresh
 unfolding edge_bytes
-returns-3 c = rw c.before.kind3.given.1
+returns-3 c = rw c.in-GloballyFresh.is
 
-pub bytes-of-spec : {M : Type 1} → statement M
-bytes-of-spec =
+pub bytes_of_spec : {M : Type 1} → statement M
+bytes_of_spec =
     tie.close
     (tie.spec (λ c. search rules) (λ c. search rules) (λ c. search rules) returns returns-2 returns-3)

@@ -6,16 +6,16 @@ use Rattle.task_edges.proofs.edge.of_body.Tie as tie
 returns : tie.Need-returns
 returns c =
     let kind = c.before.before.before in
-    body-edge kind.before.before.before.before.args.body.now
-    c.before.before.at3.ensures
-    c.before.at4.ensures
-    kind.before.before.at.ensures
-    kind.before.at2.ensures
-    c.at5.ensures
-    kind.of.ensures
+    body-edge kind.args.body.now
+    c.at-3.ensures
+    c.at-4.ensures
+    kind.at.ensures
+    kind.at-2.ensures
+    c.at-5.ensures
+    kind.of-kind.ensures
 
-pub of-body-spec : {M : Type 1} → statement M
-of-body-spec =
+pub of_body_spec : {M : Type 1} → statement M
+of_body_spec =
     tie.close
     (tie.spec
     (λ c κs. tt)

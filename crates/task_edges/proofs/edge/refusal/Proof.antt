@@ -9,54 +9,54 @@ use Rattle.task_edges.proofs.edge.refusal.Statement.{statement}
 use Rattle.task_edges.proofs.edge.refusal.Tie as tie
 
 -- what is known past each test
-existing : (c : tie.Else1) → let a = c.before.before.before.args in edge_exists a.m a.body.now ≡ true
-existing c = sym c.before.exists.ensures ∙ not-false _ c.if1.false
+existing : (c : tie.Else-not-exists) → let a = c.args in edge_exists a.m a.body.now ≡ true
+existing c = sym c.exists.ensures ∙ not-false _ c.if-not-exists.false-raw
 
-keeping : (c : tie.Else2) → let a = c.before.before.before.before.before.args in ruled a.m a.body.now ≡ true
-keeping c = sym c.before.ruled.ensures ∙ not-false _ c.if2.false
+keeping : (c : tie.Else-not-ruled) → let a = c.args in ruled a.m a.body.now ≡ true
+keeping c = sym c.ruled.ensures ∙ not-false _ c.if-not-ruled.false-raw
 
-rising : (c : tie.Else3) → let first = c.before.before.before.before in
-    let a = first.before.before.before.args in
+rising : (c : tie.Else-not-rises) → let first = c.before.before.before.before in
+    let a = first.args in
     rises a.m a.body.now ≡ true
-rising c = sym c.before.rises.ensures ∙ not-false _ c.if3.false
+rising c = sym c.rises.ensures ∙ not-false _ c.if-not-rises.false-raw
 
-returns : tie.Need-returns
+returns : tie.Need-returns-then-not-exists
 returns c =
-    let a = c.before.before.before.args in
-    sym (edge_6 a.m a.body.now (sym c.before.exists.ensures ∙ not-true _ c.if1.true))
+    let a = c.args in
+    sym (edge_6 a.m a.body.now (sym c.exists.ensures ∙ not-true _ c.if-not-exists.true-raw))
 
-returns-2 : tie.Need-returns-2
+returns-2 : tie.Need-returns-then-not-ruled
 returns-2 c =
     let first = c.before.before in
-    let a = first.before.before.before.args in
-    sym (edge_7 a.m a.body.now (existing first) (sym c.before.ruled.ensures ∙ not-true _ c.if2.true))
+    let a = first.args in
+    sym (edge_7 a.m a.body.now (existing first) (sym c.ruled.ensures ∙ not-true _ c.if-not-ruled.true-raw))
 
-returns-3 : tie.Need-returns-3
+returns-3 : tie.Need-returns-then-not-rises
 returns-3 c =
     let second = c.before.before in
     let first = second.before.before in
-    let a = first.before.before.before.args in
+    let a = first.args in
     sym
     (edge_8 a.m a.body.now (existing first) (keeping second)
-    (sym c.before.rises.ensures ∙ not-true _ c.if3.true))
+    (sym c.rises.ensures ∙ not-true _ c.if-not-rises.true-raw))
 
-returns-4 : tie.Need-returns-4
+returns-4 : tie.Need-returns-then-m-ge-EDGES
 returns-4 c =
     let third = c.before.before in
     let second = third.before.before in
     let first = second.before.before in
-    let a = first.before.before.before.args in
-    sym (edge_9 a.m a.body.now (existing first) (keeping second) (rising third) c.if4.true)
+    let a = first.args in
+    sym (edge_9 a.m a.body.now (existing first) (keeping second) (rising third) c.if-m-ge-EDGES.true)
 
-returns-5 : tie.Need-returns-5
+returns-5 : tie.Need-returns-else-m-ge-EDGES
 returns-5 c =
     let third = c.before.before in
     let second = third.before.before in
     let first = second.before.before in
-    let a = first.before.before.before.args in
-    sym (edge_0 a.m a.body.now (existing first) (keeping second) (rising third) c.if4.false)
+    let a = first.args in
+    sym (edge_0 a.m a.body.now (existing first) (keeping second) (rising third) c.if-m-ge-EDGES.false)
 
-pub refusal-spec : {M : Type 1} → statement M
-refusal-spec =
+pub refusal_spec : {M : Type 1} → statement M
+refusal_spec =
     tie.close
     (tie.spec (λ c κs. tt) returns (λ c κs. tt) returns-2 (λ c κs. tt) returns-3 returns-4 returns-5)

@@ -5,19 +5,19 @@ use Rattle.task_edges.proofs.EdgeTests.{rises-first, rises-later}
 use Rattle.task_edges.proofs.edge.rises.Statement.{statement}
 use Rattle.task_edges.proofs.edge.rises.Tie as tie
 
-returns : tie.Need-returns
-returns c = let a = c.before.before.args in sym (rises-first a.m a.body.now c.if1.true)
+returns : tie.Need-returns-then-count-eq0
+returns c = let a = c.args in sym (rises-first a.m a.body.now c.if-count-eq0.true)
 
-returns-2 : tie.Need-returns-2
+returns-2 : tie.Need-returns
 returns-2 c =
     let called = c.before.before in
-    let a = called.before.before.before.before.args in
+    let a = called.args in
     c.below.ensures
-    ∙ rises-later a.m a.body.now called.before.before.if1.false
-    called.before.Edge-of.ensures called.bytes_of.ensures
+    ∙ rises-later a.m a.body.now called.if-count-eq0.false
+    called.edge_of.ensures called.bytes_of-last.ensures
 
-pub rises-spec : {M : Type 1} → statement M
-rises-spec =
+pub rises_spec : {M : Type 1} → statement M
+rises_spec =
     tie.close
     (tie.spec
     returns

@@ -8,19 +8,19 @@ returns : tie.Need-returns
 returns c =
     let kind = c.before in
     let sets = kind.before.before.before in
-    let a = sets.before.before.before.before.before.args in
-    c.keeps-rule.ensures
+    let a = sets.args in
+    c.keeps_rule.ensures
     ∙ ruled-of a.m a.body.now
-    sets.before.before.before.at.ensures
-    kind.before.before.at3.ensures
-    kind.before.at4.ensures
-    sets.before.at2.ensures
-    sets.before.before.set-of.ensures
-    sets.set-of2.ensures
-    kind.of.ensures
+    sets.at.ensures
+    kind.at-3.ensures
+    kind.at-4.ensures
+    sets.at-2.ensures
+    sets.set_of-from.ensures
+    sets.set_of-to.ensures
+    kind.of-kind.ensures
 
-pub ruled-spec : {M : Type 1} → statement M
-ruled-spec =
+pub ruled_spec : {M : Type 1} → statement M
+ruled_spec =
     tie.close
     (tie.spec
     (λ c κs. tt)

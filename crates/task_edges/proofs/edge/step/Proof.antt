@@ -6,17 +6,18 @@ use Rattle.task_progress.proofs.OutOfPlace.{edge_elsewhere}
 use Rattle.task_edges.proofs.edge.step.Statement.{statement}
 use Rattle.task_edges.proofs.edge.step.Tie as tie
 
-returns : tie.Need-returns
+returns : tie.Need-returns-in_default
 returns c =
-    let a = c.before.before.before.args in
-    c.refuse.ensures ∙ sym (edge_elsewhere a.p a.body.now a.p.stage c.before.match.keys2)
+    let a = c.args in
+    c.refuse.ensures ∙ sym (edge_elsewhere a.p a.body.now a.p.stage c.in_default.in_default-own.keys2)
 
-returns-2 : tie.Need-returns-2
+returns-2 : tie.Need-returns
 unfolding edge
 returns-2 c =
-    let a = c.before.before.before.before.before.args in
-    c.step_of_lem.ensures ∙ sym (ap (λ s. edge s a.p a.body.now) c.before.before.stage.given.1)
+    let a = c.args in
+    c.step_of.ensures ∙ sym (ap (λ s. edge s a.p a.body.now) c.in-Edges.is)
 
 pub step_spec : {M : Type 1} → statement M
 step_spec =
-    tie.close (tie.spec (λ c. search rules) (λ c κs. tt) returns (λ c κs. tt) returns-2)
+    tie.close
+    (tie.spec (λ c. search rules) (λ c κs. tt) returns (λ c κs. tt) returns-2)

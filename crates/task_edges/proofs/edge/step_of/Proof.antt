@@ -5,32 +5,32 @@ use Rattle.task_progress.proofs.StepResults.{edge-refused, edge-taken}
 use Rattle.task_edges.proofs.edge.step_of.Statement.{statement}
 use Rattle.task_edges.proofs.edge.step_of.Tie as tie
 
-returns : tie.Need-returns
+returns : tie.Need-returns-then-n-ne0
 returns c =
     let call = c.before.before in
-    let a = call.before.before.before.before.args in
+    let a = call.args in
     c.refuse.ensures
-    ∙ edge-refused a.side a.p a.body.now call.before.model_of.ensures
-    call.refusal.result call.refusal.ensures c.before.if1.true
+    ∙ edge-refused a.side a.p a.body.now call.model_of-m.ensures
+    call.refusal-n.result call.refusal-n.ensures c.if-n-ne0.true
 
-with-edge-requires : tie.Need-with-edge-requires
+with-edge-requires : tie.Need-with_edge-requires
 with-edge-requires c κs =
     let call = c.before.before in
-    edge-room call.before.model_of.result _ (sym call.refusal.ensures ∙ c.before.if1.false)
+    edge-room call.model_of-m.result _ (sym call.refusal-n.ensures ∙ c.if-n-ne0.false)
 
-returns-2 : tie.Need-returns-2
+returns-2 : tie.Need-returns
 returns-2 c =
     let call = c.before.before.before.before.before in
-    let a = call.before.before.before.before.args in
+    let a = call.args in
     c.next.ensures
-    ∙ edge-taken a.side a.p a.body.now call.before.model_of.ensures
-    call.refusal.ensures c.before.before.before.before.if1.false
-    c.before.before.before.of-body.ensures
-    c.before.before.with-edge.ensures
-    c.before.with-model.ensures
+    ∙ edge-taken a.side a.p a.body.now call.model_of-m.ensures
+    call.refusal-n.ensures c.if-n-ne0.false
+    c.of_body.ensures
+    c.with_edge.ensures
+    c.with_model-u.ensures
 
-pub step-of-spec : {M : Type 1} → statement M
-step-of-spec =
+pub step_of_spec : {M : Type 1} → statement M
+step_of_spec =
     tie.close
     (tie.spec
     (λ c κs. tt)

@@ -9,5 +9,7 @@ returns : tie.Need-returns
 unfolding with_edge
 returns c = refl
 
-pub with-edge-spec : {M : Type 1} → statement M
-with-edge-spec = tie.close (tie.spec (λ c. search rules) (λ c. search rules) (λ c. search rules) (λ c. search rules) returns)
+pub with_edge_spec : {M : Type 1} → statement M
+with_edge_spec =
+    tie.close
+    (tie.spec (λ c. search rules) (λ c. search rules) (λ c. search rules) (λ c. search rules) returns)

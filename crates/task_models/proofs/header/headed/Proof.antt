@@ -8,5 +8,7 @@ returns : tie.Need-returns
 unfolding headed
 returns c = refl
 
-pub headed-spec : {M : Type 1} → statement M
-headed-spec = tie.close (tie.spec returns)
+pub headed_spec : {M : Type 1} → statement M
+headed_spec =
+    tie.close
+    (tie.spec returns)

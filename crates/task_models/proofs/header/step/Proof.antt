@@ -7,34 +7,34 @@ use Rattle.task_progress.proofs.OutOfPlace.{header_elsewhere}
 use Rattle.task_models.proofs.header.step.Statement.{statement}
 use Rattle.task_models.proofs.header.step.Tie as tie
 
-returns : tie.Need-returns
+returns : tie.Need-returns-in-Start
 unfolding header
 returns c =
-    let a = c.before.before.before.before.args in
-    c.step_of_lem.ensures ∙ sym (ap (λ s. header s a.p a.body.now) c.before.enum_told.given.1)
+    let a = c.args in
+    c.step_of.ensures ∙ sym (ap (λ s. header s a.p a.body.now) c.in-Start.is)
 
-returns-2 : tie.Need-returns-2
+returns-2 : tie.Need-returns-in-Left
 unfolding header
 returns-2 c =
     let left = c.before in
-    let edges = left.before.before.before in
-    let a = edges.before.before.before.args in
-    c.step-of2.ensures
-    ∙ sym (ap (λ s. header s a.p a.body.now) (edges.stage.given.1 ∙ ap Edges left.enum-told2.given.1))
+    let edges = left.before in
+    let a = edges.args in
+    c.step_of-in-Left.ensures
+    ∙ sym (ap (λ s. header s a.p a.body.now) (edges.in-Edges.is ∙ ap Edges left.in-Left.is))
 
-returns-3 : tie.Need-returns-3
+returns-3 : tie.Need-returns-in-Right
 unfolding header
 returns-3 c =
     let right = c.before in
-    let edges = right.before.before.before in
-    let a = edges.before.before.before.args in
+    let edges = right.before in
+    let a = edges.args in
     c.refuse.ensures
-    ∙ sym (ap (λ s. header s a.p a.body.now) (edges.stage.given.1 ∙ ap Edges right.enum-told3.given.1))
+    ∙ sym (ap (λ s. header s a.p a.body.now) (edges.in-Edges.is ∙ ap Edges right.in-Right.is))
 
-returns-4 : tie.Need-returns-4
+returns-4 : tie.Need-returns-in_default
 returns-4 c =
-    let a = c.before.before.before.args in
-    c.refuse2.ensures ∙ sym (header_elsewhere a.p a.body.now a.p.stage c.before.match.keys3)
+    let a = c.args in
+    c.refuse-in_default.ensures ∙ sym (header_elsewhere a.p a.body.now a.p.stage c.in_default.in_default-own.keys3)
 
 pub step_spec : {M : Type 1} → statement M
 step_spec =

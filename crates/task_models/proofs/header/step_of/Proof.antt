@@ -4,28 +4,28 @@ use Rattle.task_progress.proofs.StepResults.{header_refused, header-taken}
 use Rattle.task_models.proofs.header.step_of.Statement.{statement}
 use Rattle.task_models.proofs.header.step_of.Tie as tie
 
-returns : tie.Need-returns
+returns : tie.Need-returns-then-n-ne0
 returns c =
     let read = c.before.before.before in
-    let a = read.before.before.before.before.args in
+    let a = read.args in
     c.refuse.ensures
     ∙ header_refused a.side a.p a.body.now
-    read.before.before.at.ensures read.before.at2.ensures read.at3.ensures
-    c.before.before.refusal.result c.before.before.refusal.ensures c.before.if1.true
+    read.at-registers.ensures read.at-states.ensures read.at-start.ensures
+    c.refusal-n.result c.refusal-n.ensures c.if-n-ne0.true
 
-returns-2 : tie.Need-returns-2
+returns-2 : tie.Need-returns
 returns-2 c =
     let call = c.before.before.before.before in
     let read = call.before in
-    let a = read.before.before.before.before.args in
+    let a = read.args in
     c.next.ensures
     ∙ header-taken a.side a.p a.body.now
-    read.before.before.at.ensures read.before.at2.ensures read.at3.ensures
-    call.refusal.ensures c.before.before.before.if1.false
-    c.before.before.headed.ensures c.before.with-header.ensures
+    read.at-registers.ensures read.at-states.ensures read.at-start.ensures
+    call.refusal-n.ensures c.if-n-ne0.false
+    c.headed.ensures c.with_header-t.ensures
 
-pub step-of-spec : {M : Type 1} → statement M
-step-of-spec =
+pub step_of_spec : {M : Type 1} → statement M
+step_of_spec =
     tie.close
     (tie.spec
     (λ c κs. tt)

@@ -4,13 +4,15 @@ use Rattle.task.specs.TaskFile.{with_header}
 use Rattle.task_models.proofs.header.with_header.Statement.{statement}
 use Rattle.task_models.proofs.header.with_header.Tie as tie
 
-returns : tie.Need-returns
+returns : tie.Need-returns-in-Left
 unfolding with_header
-returns c = rw c.enum_told.given.1
+returns c = rw c.in-Left.is
 
-returns-2 : tie.Need-returns-2
+returns-2 : tie.Need-returns-in-Right
 unfolding with_header
-returns-2 c = rw (c.before.before.enum-told2.given.1, c.unmatched.ensures)
+returns-2 c = rw (c.in-Right.is, c.unmatched-start.ensures)
 
-pub with-header-spec : {M : Type 1} → statement M
-with-header-spec = tie.close (tie.spec (λ c. search rules) (λ c. search rules) (λ c κs. tt) returns returns-2)
+pub with_header_spec : {M : Type 1} → statement M
+with_header_spec =
+    tie.close
+    (tie.spec (λ c. search rules) (λ c. search rules) (λ c κs. tt) returns returns-2)

@@ -5,13 +5,15 @@ use Rattle.task.specs.TaskFile.{after_state}
 use Rattle.task_models.proofs.state.after.Statement.{statement}
 use Rattle.task_models.proofs.state.after.Tie as tie
 
-returns : tie.Need-returns
+returns : tie.Need-returns-then-q-m
 unfolding after_state
-returns c = rw (eq-eqb _ _ c.if1.true)
+returns c = rw (eq-eqb _ _ c.if-q-m.true)
 
-returns-2 : tie.Need-returns-2
+returns-2 : tie.Need-returns-else-q-m
 unfolding after_state
-returns-2 c = rw (ne_eqb _ _ c.if1.false)
+returns-2 c = rw (ne_eqb _ _ c.if-q-m.false)
 
-pub after-spec : {M : Type 1} → statement M
-after-spec = tie.close (tie.spec (λ c. search rules) (λ c. search rules) returns returns-2)
+pub after_spec : {M : Type 1} → statement M
+after_spec =
+    tie.close
+    (tie.spec (λ c. search rules) (λ c. search rules) returns returns-2)

@@ -11,26 +11,28 @@ use Rattle.task_models.proofs.state.refusal.Statement.{statement}
 use Rattle.task_models.proofs.state.refusal.Tie as tie
 
 -- the flag after the second and the third test
-second : (c : tie.Joined1) → let a = c.before.args in
-    c.if1.if2 ≡ (not (eqb a.number a.due) || leb (2 ^ a.m.registers) a.set)
+second : (c : tie.Joined-number-due) → let a = c.args in
+    c.if-number-due.value ≡ (not (eqb a.number a.due) || leb (2 ^ a.m.registers) a.set)
 second c =
-    ⊎_elim (λ w. or_over _ (ap not (ne_eqb _ _ w.0.taken)) w.1)
-    (λ w. or_next (ap not (eq-eqb _ _ w.0.left)) (w.2 ∙ w.1.ensures))
-    c.if1.branch
+    ⊎_elim (λ w. or_over _ (ap not (ne_eqb _ _ w.if-number-due.true)) w.value-is)
+    (λ w. or_next (ap not (eq-eqb _ _ w.if-number-due.false)) (w.value-is ∙ w.overruns.ensures))
+    c.if-number-due.branch-raw
 
-third : (c : tie.Joined2) → let a = c.before.before.args in
-    c.if2.if3 ≡ (not (eqb a.number a.due) || leb (2 ^ a.m.registers) a.set || ltb 1 a.mark)
+third : (c : tie.Joined-overruns) → let a = c.args in
+    c.if-overruns.value ≡ (not (eqb a.number a.due) || leb (2 ^ a.m.registers) a.set || ltb 1 a.mark)
 third c =
     rw (← second c.before)
-    (⊎_elim (λ w. or_over _ w.0.taken w.1) (λ w. or_next w.0.left w.1) c.if2.branch)
+    (⊎_elim (λ w. or_over _ w.if-overruns.true w.value-is) (λ w. or_next w.if-overruns.false w.value-is) c.if-overruns.branch-raw)
 
-returns : tie.Need-returns
+returns : tie.Need-returns-then-mark-gt1
 unfolding state_refusal
-returns c = rw (sym (third c.before) ∙ c.if3.true)
+returns c = rw (sym (third c.before) ∙ c.if-mark-gt1.true)
 
-returns-2 : tie.Need-returns-2
+returns-2 : tie.Need-returns-else-mark-gt1
 unfolding state_refusal
-returns-2 c = rw (sym (third c.before) ∙ c.if3.false)
+returns-2 c = rw (sym (third c.before) ∙ c.if-mark-gt1.false)
 
-pub refusal-spec : {M : Type 1} → statement M
-refusal-spec = tie.close (tie.spec (λ c κs. tt) returns returns-2)
+pub refusal_spec : {M : Type 1} → statement M
+refusal_spec =
+    tie.close
+    (tie.spec (λ c κs. tt) returns returns-2)

@@ -9,5 +9,7 @@ returns : tie.Need-returns
 unfolding with_state
 returns c = refl
 
-pub with-state-spec : {M : Type 1} → statement M
-with-state-spec = tie.close (tie.spec (λ c. search rules) (λ c. search rules) returns)
+pub with_state_spec : {M : Type 1} → statement M
+with_state_spec =
+    tie.close
+    (tie.spec (λ c. search rules) (λ c. search rules) returns)

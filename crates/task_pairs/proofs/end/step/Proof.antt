@@ -7,39 +7,39 @@ use Rattle.task_progress.proofs.OutOfPlace.{end_elsewhere}
 use Rattle.task_pairs.proofs.end.step.Statement.{statement}
 use Rattle.task_pairs.proofs.end.step.Tie as tie
 
-returns : tie.Need-returns
+returns : tie.Need-returns-in-Left
 unfolding end
 returns c =
     let left = c.before in
-    let edges = left.before.before.before in
-    let a = edges.before.before.args in
-    c.refuse.ensures ∙ sym (ap (λ s. end s a.p) (edges.stage.given.1 ∙ ap Edges left.enum_told.given.1))
+    let edges = left.before in
+    let a = edges.args in
+    c.refuse.ensures ∙ sym (ap (λ s. end s a.p) (edges.in-Edges.is ∙ ap Edges left.in-Left.is))
 
-returns-2 : tie.Need-returns-2
+returns-2 : tie.Need-returns-in-Right
 unfolding end
 returns-2 c =
     let right = c.before in
-    let edges = right.before.before.before in
-    let a = edges.before.before.args in
-    c.step_of_lem.ensures ∙ sym (ap (λ s. end s a.p) (edges.stage.given.1 ∙ ap Edges right.enum-told2.given.1))
+    let edges = right.before in
+    let a = edges.args in
+    c.step_of.ensures ∙ sym (ap (λ s. end s a.p) (edges.in-Edges.is ∙ ap Edges right.in-Right.is))
 
-returns-3 : tie.Need-returns-3
+returns-3 : tie.Need-returns-in-Pairs
 unfolding end
 returns-3 c =
-    let a = c.before.before.before.args in
-    c.step-of2.ensures ∙ sym (ap (λ s. end s a.p) c.before.enum-told3.given.1)
+    let a = c.args in
+    c.step_of-in-Pairs.ensures ∙ sym (ap (λ s. end s a.p) c.in-Pairs.is)
 
-returns-4 : tie.Need-returns-4
+returns-4 : tie.Need-returns-in-Sized
 unfolding end
 returns-4 c =
-    let a = c.before.before.before.args in
-    c.step-of3.ensures ∙ sym (ap (λ s. end s a.p) c.before.enum-told4.given.1)
+    let a = c.args in
+    c.step_of-in-Sized.ensures ∙ sym (ap (λ s. end s a.p) c.in-Sized.is)
 
-returns-5 : tie.Need-returns-5
+returns-5 : tie.Need-returns-in_default
 unfolding end
 returns-5 c =
-    let p = c.before.before.args.p in
-    c.refuse2.ensures ∙ sym (end_elsewhere p p.stage c.before.match.keys4)
+    let p = c.args.p in
+    c.refuse-in_default.ensures ∙ sym (end_elsewhere p p.stage c.in_default.in_default-own.keys4)
 
 pub step_spec : {M : Type 1} → statement M
 step_spec =

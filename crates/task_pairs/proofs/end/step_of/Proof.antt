@@ -7,5 +7,7 @@ returns : tie.Need-returns
 unfolding end_at
 returns c = c.next.ensures
 
-pub step-of-spec : {M : Type 1} → statement M
-step-of-spec = tie.close (tie.spec (λ c κs. tt) returns)
+pub step_of_spec : {M : Type 1} → statement M
+step_of_spec =
+    tie.close
+    (tie.spec (λ c κs. tt) returns)

@@ -11,20 +11,22 @@ use Rattle.task_pairs.proofs.history.refusal.Statement.{statement}
 use Rattle.task_pairs.proofs.history.refusal.Tie as tie
 
 -- the flag after the second test
-second : (c : tie.Joined1) → let a = c.before.args in
-    c.if1.if2 ≡ (ltb (most_seen max_registers) a.size || ltb a.size (held a.t a.t.start))
+second : (c : tie.Joined-size-gt-MOST_SEEN) → let a = c.args in
+    c.if-size-gt-MOST_SEEN.value ≡ (ltb (most_seen max_registers) a.size || ltb a.size (held a.t a.t.start))
 second c =
-    ⊎_elim (λ w. or_over _ (lt-ltb _ _ w.0.taken) w.1)
-    (λ w. or_next (le-ltb _ _ w.0.left) (w.2 ∙ ap (ltb c.before.args.size) w.1.ensures))
-    c.if1.branch
+    ⊎_elim (λ w. or_over _ (lt-ltb _ _ w.if-size-gt-MOST_SEEN.true) w.value-is)
+    (λ w. or_next (le-ltb _ _ w.if-size-gt-MOST_SEEN.false) (w.value-is ∙ ap (ltb c.args.size) w.held.ensures))
+    c.if-size-gt-MOST_SEEN.branch-raw
 
-returns : tie.Need-returns
+returns : tie.Need-returns-then-size-held
 unfolding history_refusal
-returns c = rw (sym (second c.before) ∙ c.if2.true)
+returns c = rw (sym (second c.before) ∙ c.if-size-held.true)
 
-returns-2 : tie.Need-returns-2
+returns-2 : tie.Need-returns-else-size-held
 unfolding history_refusal
-returns-2 c = rw (sym (second c.before) ∙ c.if2.false)
+returns-2 c = rw (sym (second c.before) ∙ c.if-size-held.false)
 
-pub refusal-spec : {M : Type 1} → statement M
-refusal-spec = tie.close (tie.spec (λ c κs. tt) returns returns-2)
+pub refusal_spec : {M : Type 1} → statement M
+refusal_spec =
+    tie.close
+    (tie.spec (λ c κs. tt) returns returns-2)

@@ -4,22 +4,23 @@ use Rattle.task_progress.proofs.StepResults.{history-refused, history-taken}
 use Rattle.task_pairs.proofs.history.step_of.Statement.{statement}
 use Rattle.task_pairs.proofs.history.step_of.Tie as tie
 
-returns : tie.Need-returns
+returns : tie.Need-returns-then-n-ne0
 returns c =
     let call = c.before.before in
-    let a = call.before.before.before.before.args in
+    let a = call.args in
     c.refuse.ensures
-    ∙ history-refused a.p a.body.now call.before.at.ensures
-    call.refusal.result call.refusal.ensures c.before.if1.true
+    ∙ history-refused a.p a.body.now call.at-size.ensures
+    call.refusal-n.result call.refusal-n.ensures c.if-n-ne0.true
 
-returns-2 : tie.Need-returns-2
+returns-2 : tie.Need-returns
 returns-2 c =
     let call = c.before.before.before in
-    let a = call.before.before.before.before.args in
+    let a = call.args in
     c.next.ensures
-    ∙ history-taken a.p a.body.now call.before.at.ensures
-    call.refusal.ensures c.before.before.if1.false c.before.with-history.ensures
+    ∙ history-taken a.p a.body.now call.at-size.ensures
+    call.refusal-n.ensures c.if-n-ne0.false c.with_history.ensures
 
-pub step-of-spec : {M : Type 1} → statement M
-step-of-spec =
-    tie.close (tie.spec (λ c κs. tt) (λ c κs. tt) (λ c κs. tt) returns (λ c κs. tt) (λ c κs. tt) returns-2)
+pub step_of_spec : {M : Type 1} → statement M
+step_of_spec =
+    tie.close
+    (tie.spec (λ c κs. tt) (λ c κs. tt) (λ c κs. tt) returns (λ c κs. tt) (λ c κs. tt) returns-2)

@@ -8,5 +8,7 @@ returns : tie.Need-returns
 unfolding with_history
 returns c = refl
 
-pub with-history-spec : {M : Type 1} → statement M
-with-history-spec = tie.close (tie.spec returns)
+pub with_history_spec : {M : Type 1} → statement M
+with_history_spec =
+    tie.close
+    (tie.spec returns)

@@ -11,34 +11,34 @@ use Rattle.task_pairs.proofs.pair.refusal.Tie as tie
 rising-requires : tie.Need-rising-requires
 rising-requires c κs =
     let first = c.before.before in
-    has_positive _ _ (sym first.before.held.ensures ∙ first.if1.true)
+    has_positive _ _ (sym first.held.ensures ∙ first.if-held.true)
 
-returns : tie.Need-returns
+returns : tie.Need-returns-then-not-contains
 returns c =
     let third = c.before.before.before in
     let second = third.before.before in
     let first = second.before.before in
-    let a = first.before.before.before.before.args in
+    let a = first.args in
     sym
     (pair_0 a.t a.left a.right
-    (sym first.before.held.ensures ∙ first.if1.true)
-    (sym second.before.held2.ensures ∙ second.if2.true)
-    (sym third.before.rising.ensures ∙ third.if3.true)
-    (sym c.before.contains.ensures ∙ not-true _ c.if4.true))
+    (sym first.held.ensures ∙ first.if-held.true)
+    (sym second.held-then-held.ensures ∙ second.if-held-2.true)
+    (sym third.rising.ensures ∙ third.if-rising.true)
+    (sym c.contains.ensures ∙ not-true _ c.if-not-contains.true-raw))
 
-returns-2 : tie.Need-returns-2
+returns-2 : tie.Need-returns-else-held
 returns-2 c =
-    let a = c.before.before.before.before.args in
+    let a = c.args in
     sym
     (pair_10 a.t a.left a.right
-    (⊎_elim (λ w. inr (inr (inr (sym w.6.ensures ∙ not-false _ w.7.left))))
-    (⊎_elim (λ w. inr (inr (inl (sym w.3.ensures ∙ w.4.left))))
-    (⊎_elim (λ w. inr (inl (sym w.1.ensures ∙ w.2.left)))
-    (λ w. inl (sym c.before.held.ensures ∙ w.left))))
-    c.if1.branch))
+    (⊎_elim (λ w. inr (inr (inr (sym w.contains.ensures ∙ w.if-not-contains.false))))
+    (⊎_elim (λ w. inr (inr (inl (sym w.rising.ensures ∙ w.if-rising.false))))
+    (⊎_elim (λ w. inr (inl (sym w.held-then-held.ensures ∙ w.if-held-2.false)))
+    (λ w. inl (sym c.held.ensures ∙ w.if-held.false))))
+    c.else-held.branch-raw))
 
-pub refusal-spec : {M : Type 1} → statement M
-refusal-spec =
+pub refusal_spec : {M : Type 1} → statement M
+refusal_spec =
     tie.close
     (tie.spec
     (λ c κs. tt)

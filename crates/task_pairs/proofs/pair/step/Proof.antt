@@ -5,19 +5,21 @@ use Rattle.task_pairs.proofs.RecordPlaces.{pair_placed}
 use Rattle.task_pairs.proofs.pair.step.Statement.{statement}
 use Rattle.task_pairs.proofs.pair.step.Tie as tie
 
-returns : tie.Need-returns
+returns : tie.Need-returns-then-not-among_pairs
 returns c =
     let asked = c.before.before in
-    let a = asked.before.before.args in
-    let elsewhere = sym asked.among-pairs.ensures ∙ not-true _ c.before.if1.true in
+    let a = asked.args in
+    let elsewhere = sym asked.among_pairs.ensures ∙ not-true _ c.if-not-among_pairs.true-raw in
     c.refuse.ensures ∙ sym (rw elsewhere at (pair_placed a.p a.body.now a.p.stage))
 
-returns-2 : tie.Need-returns-2
+returns-2 : tie.Need-returns
 returns-2 c =
     let asked = c.before.before in
-    let a = asked.before.before.args in
-    let here = sym asked.among-pairs.ensures ∙ not-false _ c.before.if1.false in
-    c.step_of_lem.ensures ∙ sym (rw here at (pair_placed a.p a.body.now a.p.stage))
+    let a = asked.args in
+    let here = sym asked.among_pairs.ensures ∙ not-false _ c.if-not-among_pairs.false-raw in
+    c.step_of.ensures ∙ sym (rw here at (pair_placed a.p a.body.now a.p.stage))
 
 pub step_spec : {M : Type 1} → statement M
-step_spec = tie.close (tie.spec (λ c κs. tt) (λ c κs. tt) returns (λ c κs. tt) returns-2)
+step_spec =
+    tie.close
+    (tie.spec (λ c κs. tt) (λ c κs. tt) returns (λ c κs. tt) returns-2)

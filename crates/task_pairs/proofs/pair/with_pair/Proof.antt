@@ -14,11 +14,13 @@ use Rattle.task_pairs.proofs.pair.with_pair.Tie as tie
 returns : tie.Need-returns
 unfolding with_pair
 returns c =
-    let a = c.before.before.args in
+    let a = c.args in
     let long : length a.t.start.partners ≡ 6 = search (rules, length-of-map) in
-    ⊎_elim (λ w. rw w.1)
-    (λ w. rw (w.1, set_out a.t.start.partners (a.left - 1) a.right (omega arith)))
-    c.if1.branch
+    ⊎_elim (λ w. rw w.start-is)
+    (λ w. rw (w.start-is, set_out a.t.start.partners (a.left - 1) a.right (omega arith)))
+    c.if-left-le-REGISTERS.branch-raw
 
-pub with-pair-spec : {M : Type 1} → statement M
-with-pair-spec = tie.close (tie.spec (λ c. search rules) (λ c. search rules) (λ c. search rules) returns)
+pub with_pair_spec : {M : Type 1} → statement M
+with_pair_spec =
+    tie.close
+    (tie.spec (λ c. search rules) (λ c. search rules) (λ c. search rules) returns)

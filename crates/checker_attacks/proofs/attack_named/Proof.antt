@@ -4,36 +4,36 @@ use borrow.Author.Rules.{rules}
 use Rattle.checker_attacks.proofs.attack_named.Statement.{statement}
 use Rattle.checker_attacks.proofs.attack_named.Tie as tie
 
-returns : tie.Need-returns
+returns : tie.Need-returns-in_default
 unfolding attack_from
-returns c = rw (← c.before.before.side-named.ensures, c.enum_told.given.1)
+returns c = rw (← c.side_named-s.ensures, c.in_default.is)
 
-returns-2 : tie.Need-returns-2
+returns-2 : tie.Need-returns-in_default-c
 unfolding attack_from
 returns-2 c =
-    let case = c.before.before in
-    let side = case.before.before in
+    let case = c.before in
+    let side = case.before in
     rw (
-      ← side.before.before.side-named.ensures,
-      side.s.given.1,
-      ← case.case-named.ensures,
-      c.enum-told2.given.1,
+      ← side.side_named-s.ensures,
+      side.in-Of.is,
+      ← case.case_named-c.ensures,
+      c.in_default-c.is,
     )
 
-returns-3 : tie.Need-returns-3
+returns-3 : tie.Need-returns
 unfolding attack_from
 returns-3 c =
-    let case = c.before.before.before in
-    let side = case.before.before in
+    let case = c.before in
+    let side = case.before in
     rw (
-      ← side.before.before.side-named.ensures,
-      side.s.given.1,
-      ← case.case-named.ensures,
-      c.before.c.given.1,
+      ← side.side_named-s.ensures,
+      side.in-Of.is,
+      ← case.case_named-c.ensures,
+      c.in-Of-c.is,
     )
 
-pub attack-named-spec : {M : Type 1} → statement M
-attack-named-spec =
+pub attack_named_spec : {M : Type 1} → statement M
+attack_named_spec =
     tie.close
     (tie.spec
     (λ c κs. search rules)

@@ -6,7 +6,9 @@ use Rattle.game_indexing.proofs.dropped.Tie as tie
 
 returns : tie.Need-returns
 unfolding with
-returns c = rw (c.before.has.ensures, c.has2.ensures)
+returns c = rw (c.has.ensures, c.has-2.ensures)
 
-pub dropped-spec : {M : Type 1} → statement M
-dropped-spec = tie.close (tie.spec (λ c κs. search rules) (λ c κs. search rules) returns)
+pub dropped_spec : {M : Type 1} → statement M
+dropped_spec =
+    tie.close
+    (tie.spec (λ c κs. search rules) (λ c κs. search rules) returns)

@@ -15,41 +15,41 @@ use Rattle.game_indexing.proofs.drops.Tie as tie
 abbrev drop-test : ℕ → ℕ → ℕ → ℕ → Bool
 drop-test set added other i = with set added i && not (has other i)
 
-abbrev invariant-loop : tie.invariant-loop
+abbrev invariant-loop : tie.invariant-loop-i
 invariant-loop registers set added other i₀ i =
     let f = drop-test set added other in
     any f (count 1 registers) ≡ any f (count (i + 1) (registers - i))
 
-abbrev decreases-loop : tie.decreases-loop
+abbrev decreases-loop : tie.decreases-loop-i
 decreases-loop registers set added other i₀ i = registers - i
 
-loop-holds : tie.Need-loop-init invariant-loop decreases-loop
+loop-holds : tie.Need-loop-i-init invariant-loop decreases-loop
 loop-holds c = rw (sub-zero c.args.registers)
 
-returns : tie.Need-returns invariant-loop decreases-loop
+returns : tie.Need-returns-then-dropped invariant-loop decreases-loop
 returns c =
     let at-loop = c.before.before.before in
-    let a = at-loop.before.args in
+    let a = at-loop.args in
     let f = drop-test a.set a.added a.other in
-    let here = sym c.before.dropped.ensures ∙ c.if1.true in
-    sym (at-loop.loop.invariant ∙ any_here f at-loop.loop.i a.registers (omega arith) here)
+    let here = sym c.dropped.ensures ∙ c.if-dropped.true in
+    sym (at-loop.loop-i.invariant ∙ any_here f at-loop.loop-i.i a.registers (omega arith) here)
 
-loop-again : tie.Need-loop-preserved invariant-loop decreases-loop
+loop-again : tie.Need-loop-i-preserved invariant-loop decreases-loop
 loop-again c =
     let at-loop = c.before.before.before in
-    let a = at-loop.before.args in
+    let a = at-loop.args in
     let f = drop-test a.set a.added a.other in
-    let not_here = sym c.before.dropped.ensures ∙ c.if1.false in
-    at-loop.loop.invariant ∙ any-later f at-loop.loop.i a.registers (omega arith) not_here
+    let not_here = sym c.dropped.ensures ∙ c.if-dropped.false in
+    at-loop.loop-i.invariant ∙ any-later f at-loop.loop-i.i a.registers (omega arith) not_here
 
-returns-2 : tie.Need-returns-2 invariant-loop decreases-loop
+returns-2 : tie.Need-returns invariant-loop decreases-loop
 returns-2 c =
-    let a = c.before.before.args in
+    let a = c.args in
     let f = drop-test a.set a.added a.other in
-    sym (c.before.loop.invariant ∙ any-end f c.before.loop.i a.registers (omega arith))
+    sym (c.loop-i.invariant ∙ any-end f c.loop-i.i a.registers (omega arith))
 
-pub drops-spec : {M : Type 1} → statement M
-drops-spec =
+pub drops_spec : {M : Type 1} → statement M
+drops_spec =
     tie.close
     (tie.spec
     invariant-loop

@@ -11,26 +11,26 @@ use Rattle.game_indexing.proofs.Appended.{sets_repeated}
 use Rattle.game_indexing.proofs.fill.Statement.{statement}
 use Rattle.game_indexing.proofs.fill.Tie as tie
 
-abbrev invariant-loop : tie.invariant-loop
+abbrev invariant-loop : tie.invariant-loop-i
 invariant-loop out₀ from to value i₀ out i = (from ≤ i) × (i ≤ to) × (out ≡ sets out₀ from (replicate (i - from) value))
 
-abbrev decreases-loop : tie.decreases-loop
+abbrev decreases-loop : tie.decreases-loop-i
 decreases-loop out₀ from to value i₀ out i = to - i
 
-loop-holds : tie.Need-loop-init invariant-loop decreases-loop
+loop-holds : tie.Need-loop-i-init invariant-loop decreases-loop
 loop-holds c = (search rules, search rules, rw (sub_self c.args.from))
 
-loop-again : tie.Need-loop-preserved invariant-loop decreases-loop
+loop-again : tie.Need-loop-i-preserved invariant-loop decreases-loop
 loop-again c =
     let at-loop = c.before in
-    let a = at-loop.before.args in
-    let (least, most, done) = at-loop.loop.invariant in
-    (omega arith, omega arith, rw done (sets_repeated a.out.now a.from at-loop.loop.i a.value least))
+    let a = at-loop.args in
+    let (least, most, done) = at-loop.loop-i.invariant in
+    (omega arith, omega arith, rw done (sets_repeated a.out.now a.from at-loop.loop-i.i a.value least))
 
 returns : tie.Need-returns invariant-loop decreases-loop
 returns c =
-    let (least, most, done) = c.before.loop.invariant in
-    let all : c.before.loop.i ≡ c.before.before.args.to = omega arith in
+    let (least, most, done) = c.loop-i.invariant in
+    let all : c.loop-i.i ≡ c.args.to = omega arith in
     rw all at done
 
 pub fill_spec : {M : Type 1} → statement M

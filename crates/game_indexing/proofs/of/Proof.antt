@@ -15,36 +15,30 @@ use Rattle.game_indexing.proofs.IndexParts.{SizedTask, of-written}
 use Rattle.game_indexing.proofs.of.Statement.{statement}
 use Rattle.game_indexing.proofs.of.Tie as tie
 
-put-side-requires : tie.Need-put-side-requires
-put-side-requires c κs = let pre = c.before.requires in (omega arith, record { valid = pre.valid.left; tags = pre.tags Left })
+put-side-requires : tie.Need-put_side-requires
+put-side-requires c κs = let pre = c.requires in (omega arith, record { valid = pre.valid.left; tags = pre.tags Left })
 
-put-side-requires-2 : tie.Need-put-side-requires-2
+put-side-requires-2 : tie.Need-put_side-requires-2
 put-side-requires-2 c κs =
-    let pre = c.before.before.before.requires in (omega arith, record { valid = pre.valid.right; tags = pre.tags Right })
-
-six : (c : tie.Start) → length c.args.t.start.partners ≡ 6
-six c = search rules
+    let pre = c.requires in (omega arith, record { valid = pre.valid.right; tags = pre.tags Right })
 
 returns : tie.Need-returns
 returns c =
-    let started = c.before.before in
-    let right = started.before.before in
-    let left = right.before.before in
-    let start = left.before.before in
-    let t = start.args.t in
-    let sides = both t left.put-side.ensures.sized right.put-side2.ensures.sized in
-    let sized : SizedTask t = record { sides = sides; partners = six start } in
+    let t = c.args.t in
+    let six : length t.start.partners ≡ 6 = search rules in
+    let sides = both t c.put_side.ensures.sized c.put_side-2.ensures.sized in
+    let sized : SizedTask t = record { sides = sides; partners = six } in
     record {
-      indexable = start.requires;
+      indexable = c.requires;
       sized = sides;
-      partners = six start;
+      partners = six;
       written =
           rw (
             c.number.ensures,
             test-byte t.history_stated,
-            started.put-start.ensures,
-            right.put-side2.ensures.written,
-            left.put-side.ensures.written,
+            c.put_start.ensures,
+            c.put_side-2.ensures.written,
+            c.put_side.ensures.written,
           )
           (of-written t _ sized (replicate size 0) (length-replicate {A = ℕ} size 0));
     }

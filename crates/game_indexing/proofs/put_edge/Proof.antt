@@ -15,16 +15,16 @@ unfolding edge_bytes
 returns c =
     let first = c.before.before in
     let numbered = first.before.before in
-    let a = numbered.before.before.args in
+    let a = numbered.args in
     let e = a.e in
     let kind = e.kind in
-    c.put-four2.ensures
-    ∙ rw (first.put_four.ensures, numbered.number.ensures, first.before.register.ensures, test-byte a.drops)
+    c.put_four-2.ensures
+    ∙ rw (first.put_four.ensures, numbered.number.ensures, first.register.ensures, test-byte a.drops)
     (sets_behind a.out.now a.at (e.from ∷ e.tag ∷ kind_number kind ∷ register_of kind ∷ [])
     (e.to ∷ a.set ∷ flag a.drops ∷ 0 ∷ []) (a.at + 4) refl)
 
-pub put-edge-spec : {M : Type 1} → statement M
-put-edge-spec =
+pub put_edge_spec : {M : Type 1} → statement M
+put_edge_spec =
     tie.close
     (tie.spec
     (λ c κs. search rules)

@@ -15,20 +15,20 @@ use Rattle.game_indexing.proofs.EqualStrings.{strings_more}
 use Rattle.game_indexing.proofs.put_edges.Statement.{statement}
 use Rattle.game_indexing.proofs.put_edges.Tie as tie
 
-abbrev invariant-loop : tie.invariant-loop
+abbrev invariant-loop : tie.invariant-loop-k
 invariant-loop out₀ at m states k₀ out k = (k ≤ edge_places) × (out ≡ sets out₀ at (flat_map (edge_entry m) (take k m.edges)))
 
-abbrev decreases-loop : tie.decreases-loop
+abbrev decreases-loop : tie.decreases-loop-k
 decreases-loop out₀ at m states k₀ out k = edge_places - k
 
-long : (c : tie.Start invariant-loop decreases-loop) → length c.args.t3.edges ≡ edge_places
+long : (c : tie.Start invariant-loop decreases-loop) → length c.args.m.edges ≡ edge_places
 long c = search (rules, length-of-map)
 
-loop-holds : tie.Need-loop-init invariant-loop decreases-loop
+loop-holds : tie.Need-loop-k-init invariant-loop decreases-loop
 unfolding flat_map
 loop-holds c = (search rules, refl)
 
-loop-again : tie.Need-loop-preserved invariant-loop decreases-loop
+loop-again : tie.Need-loop-k-preserved invariant-loop decreases-loop
 unfolding set_of drops edge_bytes
 loop-again c =
     let tested = c.before.before in
@@ -37,13 +37,13 @@ loop-again c =
     let at-loop = to_set.before.before.before in
     let start = at-loop.before.before in
     let a = start.args in
-    let m = a.t3 in
-    let k = at-loop.loop.k in
+    let m = a.m in
+    let k = at-loop.loop-k.k in
     let full = long start in
-    let (below, done) = at-loop.loop.invariant in
-    let register = tested.before.register.ensures in (
+    let (below, done) = at-loop.loop-k.invariant in
+    let register = tested.register.ensures in (
       omega arith,
-      rw (c.put-edge.ensures, done, tested.drops.ensures, register, from-set.set-in2.ensures, to_set.set_in_lem.ensures)
+      rw (c.put_edge.ensures, done, tested.drops-drops.ensures, register, from-set.set_in-to_set.ensures, to_set.set_in-to_set.ensures)
           (strings_more (edge_entry m) edge_width (λ e. refl) a.out.now a.at m.edges k no_edge (omega arith)),
     )
 
@@ -51,11 +51,11 @@ returns : tie.Need-returns invariant-loop decreases-loop
 returns c =
     let at-loop = c.before in
     let start = at-loop.before.before in
-    let (below, done) = at-loop.loop.invariant in
-    rw (take_all at-loop.loop.k start.args.t3.edges (omega (arith, long start))) at done
+    let (below, done) = at-loop.loop-k.invariant in
+    rw (take_all at-loop.loop-k.k start.args.m.edges (omega (arith, long start))) at done
 
-pub put-edges-spec : {M : Type 1} → statement M
-put-edges-spec =
+pub put_edges_spec : {M : Type 1} → statement M
+put_edges_spec =
     tie.close
     (tie.spec
     invariant-loop

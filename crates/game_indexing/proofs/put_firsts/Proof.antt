@@ -21,54 +21,54 @@ use Rattle.game_indexing.proofs.put_firsts.Lts as lts
 use Rattle.game_indexing.proofs.code_of.Reads as code-of-reads
 use Rattle.game_indexing.proofs.fill.Reads as fill-reads
 
-abbrev invariant-loop : tie.invariant-loop
+abbrev invariant-loop : tie.invariant-loop-k
 invariant-loop out₀ at m next₀ k₀ out next k = Passed m k next × (out ≡ sets out₀ at (map (first_edge m) (count 0 next)))
 
-abbrev decreases-loop : tie.decreases-loop
+abbrev decreases-loop : tie.decreases-loop-k
 decreases-loop out₀ at m next₀ k₀ out next k = m.edge_count - k
 
-sized : (c : tie.Start invariant-loop decreases-loop) → Sized c.args.t3
+sized : (c : tie.Start invariant-loop decreases-loop) → Sized c.args.m
 sized c = record { states = search (rules, length-of-map); edges = search (rules, length-of-map) }
 
 -- the code that was read is that of edge `k`, and there is room for it
-coded : (c : tie.After-code-of invariant-loop decreases-loop)
+coded : (c : tie.After-code_of-end invariant-loop decreases-loop)
     → let at-loop = c.before.before.before in
-    let e = edge_of at-loop.before.args.t3 at-loop.loop.k in
-    (c.code_of_lem.result ≡ edge_code e) × (edge_code e < codes)
+    let e = edge_of at-loop.args.m at-loop.loop-k.k in
+    (c.code_of-end.result ≡ edge_code e) × (edge_code e < codes)
 unfolding edge_of
 coded c =
     let at-loop = c.before.before.before in
-    (c.code_of_lem.ensures, code_bound at-loop.before.requires.1 (sized at-loop.before) at-loop.loop.k (omega arith))
+    (c.code_of-end.ensures, code_bound at-loop.requires.1 (sized at-loop.before) at-loop.loop-k.k (omega arith))
 
-loop-holds : tie.Need-loop-init invariant-loop decreases-loop
+loop-holds : tie.Need-loop-k-init invariant-loop decreases-loop
 unfolding count
-loop-holds c = (passed_none c.args.t3, refl)
+loop-holds c = (passed_none c.args.m, refl)
 
-element-copy-out-code-of : tie.Need-element-copy-out-code-of invariant-loop decreases-loop
+element-copy-out-code-of : tie.Need-bounds-m-k invariant-loop decreases-loop
 element-copy-out-code-of c =
     let start = c.before.before in
     omega (arith, (sized start).edges, start.requires.1.valid.edges_placed)
 
-add-end : tie.Need-overflow-add-end invariant-loop decreases-loop
+add-end : tie.Need-overflow_add-end invariant-loop decreases-loop
 add-end c = omega (arith, coded c)
 
-add-fill-2 : tie.Need-overflow-add-fill-2 invariant-loop decreases-loop
+add-fill-2 : tie.Need-overflow_add-at-in-loop-k invariant-loop decreases-loop
 add-fill-2 c = omega (arith, coded c.before)
 
 fill-requires : tie.Need-fill-requires invariant-loop decreases-loop
 fill-requires c κs =
-    let (passed, done) = c.before.before.before.before.loop.invariant in
+    let (passed, done) = c.loop-k.invariant in
     omega (arith, coded c.before, passed.ahead (omega arith))
 
-loop-again : tie.Need-loop-preserved invariant-loop decreases-loop
+loop-again : tie.Need-loop-k-preserved invariant-loop decreases-loop
 loop-again c =
     let read = c.before.before in
     let at-loop = read.before.before.before in
     let start = at-loop.before in
     let a = start.args in
-    let (passed, done) = at-loop.loop.invariant in
+    let (passed, done) = at-loop.loop-k.invariant in
     let (code, few) = coded read in
-    let less : at-loop.loop.k < a.t3.edge_count = omega arith in (
+    let less : at-loop.loop-k.k < a.m.edge_count = omega arith in (
       rw code (passed-more passed start.requires.1 (sized start) less),
       c.fill.ensures
           ∙ rw (done, code) (firsts_more passed a.out.now a.at _ (passed.ahead less) (λ h. omega arith)),
@@ -77,14 +77,14 @@ loop-again c =
 returns : tie.Need-returns invariant-loop decreases-loop
 returns c =
     let at-loop = c.before.before.before in
-    let a = at-loop.before.args in
-    let (passed, done) = at-loop.loop.invariant in
+    let a = at-loop.args in
+    let (passed, done) = at-loop.loop-k.invariant in
     let end : a.at + codes + 1 ≡ a.at + suc codes = omega arith in
-    c.fill2.ensures
+    c.fill-2.ensures
     ∙ rw (done, end) (firsts_more passed a.out.now a.at (suc codes) (omega arith) (λ h. absurd (omega arith)))
 
-pub put-firsts-spec : {M : Type 1} → statement M
-put-firsts-spec =
+pub put_firsts_spec : {M : Type 1} → statement M
+put_firsts_spec =
     tie.close
     (tie.spec
     invariant-loop

@@ -7,8 +7,8 @@ use Rattle.game_indexing.proofs.put_four.Tie as tie
 returns : tie.Need-returns
 returns c = let a = c.args in sets_four a.out.now a.at a.a a.b a.c a.d
 
-pub put-four-spec : {M : Type 1} → statement M
-put-four-spec =
+pub put_four_spec : {M : Type 1} → statement M
+put_four_spec =
     tie.close
     (tie.spec
     (λ c. search rules)

@@ -20,13 +20,13 @@ returns c =
     record {
       sized = sized start;
       written =
-          c.put-firsts.ensures
-          ∙ rw (edges.put-edges.ensures, states.put-states.ensures, counts.put-counts.ensures)
+          c.put_firsts.ensures
+          ∙ rw (edges.put_edges.ensures, states.put_states.ensures, counts.put_counts.ensures)
           (side-written a.m (sized start) a.out.now a.at);
     }
 
-pub put-side-spec : {M : Type 1} → statement M
-put-side-spec =
+pub put_side_spec : {M : Type 1} → statement M
+put_side_spec =
     tie.close
     (tie.spec
     (λ c κs. search rules)

@@ -12,13 +12,13 @@ returns : tie.Need-returns
 unfolding bytes count
 returns c =
     let first = c.before.before in
-    let p = first.before.before.before.args.p in
+    let p = first.args.p in
     let six : length p.partners ≡ 6 = search rules in
     let six_bytes = listed (λ i. get_or p.partners i 0) 6 p.partners 0 six (λ i b. refl) in
-    rw (c.put-four2.ensures, first.put_four.ensures, ← six_bytes) refl
+    rw (c.put_four-2.ensures, first.put_four.ensures, ← six_bytes) refl
 
-pub put-start-spec : {M : Type 1} → statement M
-put-start-spec =
+pub put_start_spec : {M : Type 1} → statement M
+put_start_spec =
     tie.close
     (tie.spec
     (λ c. search rules)

@@ -16,24 +16,24 @@ use Rattle.game_indexing.proofs.EqualStrings.{strings_more}
 use Rattle.game_indexing.proofs.put_states.Statement.{statement}
 use Rattle.game_indexing.proofs.put_states.Tie as tie
 
-abbrev invariant-loop : tie.invariant-loop
+abbrev invariant-loop : tie.invariant-loop-q
 invariant-loop out₀ at m q₀ out q = (q ≤ state_places) × (out ≡ sets out₀ at (flat_map state_bytes (take q m.states)))
 
-abbrev decreases-loop : tie.decreases-loop
+abbrev decreases-loop : tie.decreases-loop-q
 decreases-loop out₀ at m q₀ out q = state_places - q
 
-loop-holds : tie.Need-loop-init invariant-loop decreases-loop
+loop-holds : tie.Need-loop-q-init invariant-loop decreases-loop
 unfolding flat_map
 loop-holds c = (search rules, refl)
 
-loop-again : tie.Need-loop-preserved invariant-loop decreases-loop
+loop-again : tie.Need-loop-q-preserved invariant-loop decreases-loop
 loop-again c =
     let at-loop = c.before.before in
-    let a = at-loop.before.args in
-    let states = a.t3.states in
-    let q = at-loop.loop.q in
+    let a = at-loop.args in
+    let states = a.m.states in
+    let q = at-loop.loop-q.q in
     let long : length states ≡ state_places = search (rules, length-of-map) in
-    let (below, done) = at-loop.loop.invariant in (
+    let (below, done) = at-loop.loop-q.invariant in (
       omega arith,
       rw (done, add-one (a.at + state_width * q))
           (strings_more state_bytes state_width (λ s. refl) a.out.now a.at states q no_state (omega arith)),
@@ -42,13 +42,13 @@ loop-again c =
 returns : tie.Need-returns invariant-loop decreases-loop
 returns c =
     let at-loop = c.before in
-    let states = at-loop.before.args.t3.states in
+    let states = at-loop.args.m.states in
     let long : length states ≡ state_places = search (rules, length-of-map) in
-    let (below, done) = at-loop.loop.invariant in
-    rw (take_all at-loop.loop.q states (omega arith)) at done
+    let (below, done) = at-loop.loop-q.invariant in
+    rw (take_all at-loop.loop-q.q states (omega arith)) at done
 
-pub put-states-spec : {M : Type 1} → statement M
-put-states-spec =
+pub put_states_spec : {M : Type 1} → statement M
+put_states_spec =
     tie.close
     (tie.spec
     invariant-loop

@@ -8,11 +8,13 @@ use Rattle.fra_laws.proofs.Lengths.{length-of-map}
 use Rattle.game_indexing.proofs.set_in.Statement.{statement}
 use Rattle.game_indexing.proofs.set_in.Tie as tie
 
-returns-2 : tie.Need-returns-2
+returns-2 : tie.Need-returns-else-q-lt-STATES
 returns-2 c =
-    let a = c.before.args in
-    let long : length a.t1 ≡ 16 = search (rules, length-of-map) in
-    rw (get_or-eq_default a.t1 no_state {n = a.q} (omega arith))
+    let a = c.args in
+    let long : length a.states ≡ 16 = search (rules, length-of-map) in
+    rw (get_or-eq_default a.states no_state {n = a.q} (omega arith))
 
-pub set-in-spec : {M : Type 1} → statement M
-set-in-spec = tie.close (tie.spec (λ c. search rules) (λ c. search rules) (λ c. search rules) returns-2)
+pub set_in_spec : {M : Type 1} → statement M
+set_in_spec =
+    tie.close
+    (tie.spec (λ c. search rules) (λ c. search rules) (λ c. search rules) returns-2)

@@ -15,27 +15,27 @@ unfolding answers
 partnered zero kind n = absurd (n refl)
 partnered (suc b) kind n = refl
 
-returns : tie.Need-returns
+returns : tie.Need-returns-then-partner-eq0
 unfolding answers
-returns c = rw (c.before.before.enum_told.given.1, c.before.if1.true, c.is-locally-fresh.ensures)
+returns c = rw (c.in-Held.is, c.if-partner-eq0.true, c.is_locally_fresh.ensures)
 
-returns-2 : tie.Need-returns-2
-returns-2 c = rw (c.before.before.enum_told.given.1, c.is_Known.ensures, partnered _ _ c.before.if1.false)
+returns-2 : tie.Need-returns-else-partner-eq0
+returns-2 c = rw (c.in-Held.is, c.is_known.ensures, partnered _ _ c.if-partner-eq0.false)
 
-returns-3 : tie.Need-returns-3
+returns-3 : tie.Need-returns-in-Private
 unfolding answers
-returns-3 c = rw (c.before.before.case.given.1, c.is-known2.ensures)
+returns-3 c = rw (c.in-Private.is, c.is_known-in-Private.ensures)
 
-returns-4 : tie.Need-returns-4
+returns-4 : tie.Need-returns-in-Seen
 unfolding answers
-returns-4 c = rw (c.before.enum-told2.given.1, c.takes-unheld.ensures)
+returns-4 c = rw (c.in-Seen.is, c.takes_unheld.ensures)
 
-returns-5 : tie.Need-returns-5
+returns-5 : tie.Need-returns-in-New
 unfolding answers
-returns-5 c = rw (c.before.enum-told3.given.1, c.takes-unheld2.ensures)
+returns-5 c = rw (c.in-New.is, c.takes_unheld-in-New.ensures)
 
-pub answers-spec : {M : Type 1} → statement M
-answers-spec =
+pub answers_spec : {M : Type 1} → statement M
+answers_spec =
     tie.close
     (tie.spec
     (λ c. search rules)

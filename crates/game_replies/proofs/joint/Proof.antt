@@ -8,18 +8,18 @@ use Rattle.fra_laws.proofs.Pairs.{own-known, other-known, both_fresh}
 use Rattle.game_replies.proofs.joint.Statement.{statement}
 use Rattle.game_replies.proofs.joint.Tie as tie
 
-returns : tie.Need-returns
+returns : tie.Need-returns-then-not-is_fresh
 unfolding partner
 returns c = λ p e.
     let asked = c.before in
     let register = asked.before in
     let tested = register.before.before in
-    let a = tested.before.before.args in
-    let known = sym tested.is-fresh.ensures ∙ not-true _ register.before.if1.true in
+    let a = tested.args in
+    let known = sym tested.is_fresh.ensures ∙ not-true _ register.if-not-is_fresh.true-raw in
     c.answers.ensures
-    ∙ rw (asked.right-partner.ensures, register.register.ensures, ← e) (sym (own-known p Left a.left a.right known))
+    ∙ rw (asked.right_partner.ensures, register.register.ensures, ← e) (sym (own-known p Left a.left a.right known))
 
-returns-2 : tie.Need-returns-2
+returns-2 : tie.Need-returns-then-not-is_fresh-2
 unfolding partner
 returns-2 c = λ p e.
     let asked = c.before in
@@ -27,25 +27,25 @@ returns-2 c = λ p e.
     let tested = register.before.before in
     let rest = tested.before in
     let begun = rest.before in
-    let a = begun.before.before.args in
-    let fresh = sym begun.is-fresh.ensures ∙ not-false _ rest.if1.false in
-    let known = sym tested.is-fresh2.ensures ∙ not-true _ register.before.if2.true in
-    c.answers2.ensures
-    ∙ rw (asked.left-partner.ensures, register.register2.ensures, ← e)
+    let a = begun.args in
+    let fresh = sym begun.is_fresh.ensures ∙ not-false _ rest.if-not-is_fresh.false-raw in
+    let known = sym tested.is_fresh-2.ensures ∙ not-true _ register.if-not-is_fresh-2.true-raw in
+    c.answers-then-not-is_fresh-2.ensures
+    ∙ rw (asked.left_partner.ensures, register.register-then-not-is_fresh-2.ensures, ← e)
     (sym (other-known p Left a.left a.right fresh known))
 
-returns-3 : tie.Need-returns-3
+returns-3 : tie.Need-returns
 returns-3 c = λ p e.
     let tested = c.before in
     let rest = tested.before in
     let begun = rest.before in
-    let a = begun.before.before.args in
-    let fresh = sym begun.is-fresh.ensures ∙ not-false _ rest.if1.false in
-    let other_fresh = sym tested.is-fresh2.ensures ∙ not-false _ c.if2.false in
+    let a = begun.args in
+    let fresh = sym begun.is_fresh.ensures ∙ not-false _ rest.if-not-is_fresh.false-raw in
+    let other_fresh = sym tested.is_fresh-2.ensures ∙ not-false _ c.if-not-is_fresh-2.false-raw in
     sym (both_fresh p Left a.left a.right fresh other_fresh)
 
-pub joint-spec : {M : Type 1} → statement M
-joint-spec =
+pub joint_spec : {M : Type 1} → statement M
+joint_spec =
     tie.close
     (tie.spec
     (λ c κs. search rules)

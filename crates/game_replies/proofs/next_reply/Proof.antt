@@ -17,51 +17,51 @@ use Rattle.game_replies.proofs.ReplySearch.{reply_here, reply_later, reply_none,
 use Rattle.game_replies.proofs.next_reply.Statement.{statement}
 use Rattle.game_replies.proofs.next_reply.Tie as tie
 
-abbrev invariant-loop : tie.invariant-loop
+abbrev invariant-loop : tie.invariant-loop-k
 invariant-loop index challenge from side edges k₀ k =
     (p : Position) (a : Attack) → challenge ≡ challenge_of (task_in index) p a
     → reply_from (task_in index) p a from ≡ reply_from (task_in index) p a k
 
-abbrev decreases-loop : tie.decreases-loop
+abbrev decreases-loop : tie.decreases-loop-k
 decreases-loop index challenge from side edges k₀ k = edges.end - k
 
-loop-holds : tie.Need-loop-init invariant-loop decreases-loop
+loop-holds : tie.Need-loop-k-init invariant-loop decreases-loop
 loop-holds c = λ p a e.
     let start = c.before.before in
-    rw c.later.ensures
+    rw c.later-k.ensures
     (reply_skip _ p a _ _ (omega arith)
     (λ j l h. let before : j < start.args.challenge.edges.first = omega arith in
     none_before start.requires p a j (rw e at before)))
 
-returns : tie.Need-returns invariant-loop decreases-loop
+returns : tie.Need-returns-then-is_reply invariant-loop decreases-loop
 returns c = λ p a e.
     let tested = c.before.before.before in
     let at-loop = tested.before.before.before in
     let start = at-loop.before.before.before in
     let b = start.args.index.now in
-    let k = at-loop.loop.k in
-    let found = sym (tested.is_reply_lem.ensures p a e) ∙ c.before.before.if2.true in
+    let k = at-loop.loop-k.k in
+    let found = sym (tested.is_reply.ensures p a e) ∙ c.if-is_reply.true in
     let same = placed start.requires p a k (reply_facts (task_in b) p a k found).exists in
     sym
-    (at-loop.loop.invariant p a e
+    (at-loop.loop-k.invariant p a e
     ∙ reply_here (task_in b) p a k found
-    ∙ rw (c.target_at.ensures, same, c.before.other.ensures, e, model_in_lem b (other a.side)))
+    ∙ rw (c.target_at-target.ensures, same, c.other.ensures, e, model_in_lem b (other a.side)))
 
-loop-again : tie.Need-loop-preserved invariant-loop decreases-loop
+loop-again : tie.Need-loop-k-preserved invariant-loop decreases-loop
 loop-again c = λ p a e.
     let tested = c.before in
     let at-loop = tested.before.before.before in
-    at-loop.loop.invariant p a e ∙ reply_later _ p a at-loop.loop.k (sym (tested.is_reply_lem.ensures p a e) ∙ c.if2.false)
+    at-loop.loop-k.invariant p a e ∙ reply_later _ p a at-loop.loop-k.k (sym (tested.is_reply.ensures p a e) ∙ c.if-is_reply.false)
 
-returns-2 : tie.Need-returns-2 invariant-loop decreases-loop
+returns-2 : tie.Need-returns invariant-loop decreases-loop
 returns-2 c = λ p a e.
     let at-loop = c.before.before in
     let start = at-loop.before.before.before in
-    let past = rw e at c.if1.false in
-    sym (at-loop.loop.invariant p a e ∙ reply_none _ p a at-loop.loop.k (λ j h. none_past start.requires p a j (omega arith)))
+    let past = rw e at c.loop-k-test.false in
+    sym (at-loop.loop-k.invariant p a e ∙ reply_none _ p a at-loop.loop-k.k (λ j h. none_past start.requires p a j (omega arith)))
 
-pub next-reply-spec : {M : Type 1} → statement M
-next-reply-spec =
+pub next_reply_spec : {M : Type 1} → statement M
+next_reply_spec =
     tie.close
     (tie.spec
     invariant-loop

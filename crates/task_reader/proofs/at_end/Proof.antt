@@ -6,16 +6,18 @@ use Rattle.task_reader.proofs.RestOfFile.{unended}
 use Rattle.task_reader.proofs.at_end.Statement.{statement}
 use Rattle.task_reader.proofs.at_end.Tie as tie
 
-returns : tie.Need-returns
+returns : tie.Need-returns-in_default
 returns c =
-    let p = c.before.before.args.p in
-    c.refused.ensures ∙ unended p p.stage c.before.match.keys2
+    let p = c.args.p in
+    c.refused.ensures ∙ unended p p.stage c.in_default.in_default-own.keys2
 
-returns-2 : tie.Need-returns-2
+returns-2 : tie.Need-returns
 unfolding at_end
 returns-2 c =
-    let p = c.before.before.before.args.p in
-    sym (ap (at_end p) c.before.enum_told.given.1)
+    let p = c.args.p in
+    sym (ap (at_end p) c.in-Ended.is)
 
-pub at-end-spec : {M : Type 1} → statement M
-at-end-spec = tie.close (tie.spec (λ c. search rules) (λ c κs. tt) returns returns-2)
+pub at_end_spec : {M : Type 1} → statement M
+at_end_spec =
+    tie.close
+    (tie.spec (λ c. search rules) (λ c κs. tt) returns returns-2)

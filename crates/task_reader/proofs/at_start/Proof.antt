@@ -5,7 +5,9 @@ use Rattle.task_reader.proofs.at_start.Tie as tie
 
 returns : tie.Need-returns
 unfolding at_start
-returns c = rw c.no-task.ensures
+returns c = rw c.no_task.ensures
 
-pub at-start-spec : {M : Type 1} → statement M
-at-start-spec = tie.close (tie.spec (λ c κs. tt) returns)
+pub at_start_spec : {M : Type 1} → statement M
+at_start_spec =
+    tie.close
+    (tie.spec (λ c κs. tt) returns)

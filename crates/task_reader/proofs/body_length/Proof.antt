@@ -4,32 +4,32 @@ use Rattle.task.specs.TaskFile.{body_length}
 use Rattle.task_reader.proofs.body_length.Statement.{statement}
 use Rattle.task_reader.proofs.body_length.Tie as tie
 
-returns : tie.Need-returns
+returns : tie.Need-returns-in-Header
 unfolding body_length
-returns c = rw c.enum_told.given.1
+returns c = rw c.in-Header.is
 
-returns-2 : tie.Need-returns-2
+returns-2 : tie.Need-returns-in-State
 unfolding body_length
-returns-2 c = rw c.enum-told2.given.1
+returns-2 c = rw c.in-State.is
 
-returns-3 : tie.Need-returns-3
+returns-3 : tie.Need-returns-in-Edge
 unfolding body_length
-returns-3 c = rw c.enum-told3.given.1
+returns-3 c = rw c.in-Edge.is
 
-returns-4 : tie.Need-returns-4
+returns-4 : tie.Need-returns-in-Pair
 unfolding body_length
-returns-4 c = rw c.enum-told4.given.1
+returns-4 c = rw c.in-Pair.is
 
-returns-5 : tie.Need-returns-5
+returns-5 : tie.Need-returns-in-History
 unfolding body_length
-returns-5 c = rw c.enum-told5.given.1
+returns-5 c = rw c.in-History.is
 
-returns-6 : tie.Need-returns-6
+returns-6 : tie.Need-returns-in-End
 unfolding body_length
-returns-6 c = rw c.enum-told6.given.1
+returns-6 c = rw c.in-End.is
 
-pub body-length-spec : {M : Type 1} → statement M
-body-length-spec =
+pub body_length_spec : {M : Type 1} → statement M
+body_length_spec =
     tie.close
     (tie.spec
     (λ c. search rules)

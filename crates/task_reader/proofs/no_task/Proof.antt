@@ -5,7 +5,9 @@ use Rattle.task_reader.proofs.no_task.Tie as tie
 
 returns : tie.Need-returns
 unfolding no_task no_model headed
-returns c = rw (c.before.headed.ensures, c.unmatched.ensures)
+returns c = rw (c.headed-m.ensures, c.unmatched-start.ensures)
 
-pub no-task-spec : {M : Type 1} → statement M
-no-task-spec = tie.close (tie.spec (λ c κs. tt) (λ c κs. tt) returns)
+pub no_task_spec : {M : Type 1} → statement M
+no_task_spec =
+    tie.close
+    (tie.spec (λ c κs. tt) (λ c κs. tt) returns)

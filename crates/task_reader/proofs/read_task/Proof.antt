@@ -13,100 +13,100 @@ use Rattle.task_reader.proofs.RestOfFile.{ReadTo, begins, over, unknown, cut, tu
 use Rattle.task_reader.proofs.read_task.Statement.{statement}
 use Rattle.task_reader.proofs.read_task.Tie as tie
 
-abbrev invariant-loop : tie.invariant-loop
+abbrev invariant-loop : tie.invariant-loop-at
 invariant-loop file p₀ at₀ p at = ReadTo file p at
 
-abbrev decreases-loop : tie.decreases-loop
+abbrev decreases-loop : tie.decreases-loop-at
 decreases-loop file p₀ at₀ p at = length file - at
 
-loop-holds : tie.Need-loop-init invariant-loop decreases-loop
+loop-holds : tie.Need-loop-at-init invariant-loop decreases-loop
 loop-holds c =
-    let file = c.before.before.args.file.now in
-    subst (λ p. ReadTo file p 0) (sym c.at-start.ensures) (begins file)
+    let file = c.args.file.now in
+    subst (λ p. ReadTo file p 0) (sym c.at_start-p.ensures) (begins file)
 
 -- the file
-abbrev fileOf : tie.At-loop invariant-loop decreases-loop → List ℕ
+abbrev fileOf : tie.At-loop-at invariant-loop decreases-loop → List ℕ
 fileOf c = c.before.before.before.args.file.now
 
 -- the kind that the byte announces
-known : (c : tie.After-kind invariant-loop decreases-loop) →
-    let here = c.before.before.before.before.before in
-    record_kind (get_or (fileOf here) here.loop.at 0) ≡ some (defined c.kind.given.0.0)
-known c = c.before.before.kind-byte.ensures ∙ ap announced c.kind.given.1
+known : (c : tie.In-Of invariant-loop decreases-loop) →
+    let here = c.before.before.before.before in
+    record_kind (get_or (fileOf here) here.loop-at.at 0) ≡ some (defined c.in-Of.kind)
+known c = c.kind_byte.ensures ∙ ap announced c.in-Of.is
 
-returns : tie.Need-returns invariant-loop decreases-loop
+returns : tie.Need-returns-in_default invariant-loop decreases-loop
 returns c =
-    let head = c.before.before.before in
+    let head = c.before.before in
     let here = head.before.before.before in
     c.refused.ensures
-    ∙ unknown (fileOf here) here.loop.p here.loop.at here.loop.invariant
-    head.before.before.loop-test.true
-    (head.kind-byte.ensures ∙ ap announced c.before.enum_told.given.1)
+    ∙ unknown (fileOf here) here.loop-at.p here.loop-at.at here.loop-at.invariant
+    head.loop-at-test.true
+    (head.kind_byte.ensures ∙ ap announced c.in_default.is)
 
-returns-2 : tie.Need-returns-2 invariant-loop decreases-loop
+returns-2 : tie.Need-returns-then-file-start invariant-loop decreases-loop
 returns-2 c =
     let sized = c.before.before in
-    let kind = sized.before.before in
-    let here = kind.before.before.before.before.before in
-    c.refused2.ensures
-    ∙ cut (fileOf here) here.loop.p here.loop.at here.loop.invariant
-    kind.before.before.before.before.loop-test.true
-    (known kind) sized.body-length.ensures c.before.if1.true
+    let kind = sized.before in
+    let here = kind.before.before.before.before in
+    c.refused-then-file-start.ensures
+    ∙ cut (fileOf here) here.loop-at.p here.loop-at.at here.loop-at.invariant
+    kind.loop-at-test.true
+    (known kind) sized.body_length-length.ensures c.if-file-start.true
 
-step-requires : tie.Need-step-requires invariant-loop decreases-loop
+step-requires : tie.Need-step-s-requires invariant-loop decreases-loop
 step-requires c κs =
-    let kind = c.before.before.before.before in
-    kind.before.before.before.before.before.loop.invariant.due
+    let kind = c.before.before.before in
+    kind.loop-at.invariant.due
 
 -- the body is as long as the kind says
-stepped : (c : tie.After-step invariant-loop decreases-loop) →
+stepped : (c : tie.After-step-s invariant-loop decreases-loop) →
     let sized = c.before.before.before in
-    let kind = sized.before.before in
-    let here = kind.before.before.before.before.before in
-    c.step.result
-    ≡ step (defined kind.kind.given.0.0) here.loop.p
-    (take sized.body-length.result (drop (here.loop.at + 1) (fileOf here)))
+    let kind = sized.before in
+    let here = kind.before.before.before.before in
+    c.step-s.result
+    ≡ step (defined kind.in-Of.kind) here.loop-at.p
+    (take sized.body_length-length.result (drop (here.loop-at.at + 1) (fileOf here)))
 stepped c =
     let sized = c.before.before.before in
-    let kind = sized.before.before in
-    let here = kind.before.before.before.before.before in
-    let size = sized.body-length.result in
-    let whole : here.loop.at + 1 + size - (here.loop.at + 1) ≡ size = omega arith in
-    c.step.ensures
-    ∙ ap (λ n. step (defined kind.kind.given.0.0) here.loop.p (take n (drop (here.loop.at + 1) (fileOf here))))
+    let kind = sized.before in
+    let here = kind.before.before.before.before in
+    let size = sized.body_length-length.result in
+    let whole : here.loop-at.at + 1 + size - (here.loop-at.at + 1) ≡ size = omega arith in
+    c.step-s.ensures
+    ∙ ap (λ n. step (defined kind.in-Of.kind) here.loop-at.p (take n (drop (here.loop-at.at + 1) (fileOf here))))
     whole
 
-returns-3 : tie.Need-returns-3 invariant-loop decreases-loop
+returns-3 : tie.Need-returns-then-n-ne0 invariant-loop decreases-loop
 returns-3 c =
     let called = c.before.before in
     let sized = called.before.before.before in
-    let kind = sized.before.before in
-    let here = kind.before.before.before.before.before in
-    c.refused3.ensures
-    ∙ turned_back (fileOf here) here.loop.p here.loop.at here.loop.invariant
-    kind.before.before.before.before.loop-test.true
-    (known kind) sized.body-length.ensures called.before.before.if1.false
-    (stepped called) c.before.if2.true
+    let kind = sized.before in
+    let here = kind.before.before.before.before in
+    c.refused-then-n-ne0.ensures
+    ∙ turned_back (fileOf here) here.loop-at.p here.loop-at.at here.loop-at.invariant
+    kind.loop-at-test.true
+    (known kind) sized.body_length-length.ensures called.if-file-start.false
+    (stepped called) c.if-n-ne0.true
 
-loop-again : tie.Need-loop-preserved invariant-loop decreases-loop
+loop-again : tie.Need-loop-at-preserved invariant-loop decreases-loop
 loop-again c =
     let called = c.before.before in
     let sized = called.before.before.before in
-    let kind = sized.before.before in
-    let here = kind.before.before.before.before.before in
-    goes_on (fileOf here) here.loop.p here.loop.at here.loop.invariant
-    kind.before.before.before.before.loop-test.true
-    (known kind) sized.body-length.ensures called.before.before.if1.false
-    (stepped called) c.before.if2.false
+    let kind = sized.before in
+    let here = kind.before.before.before.before in
+    goes_on (fileOf here) here.loop-at.p here.loop-at.at here.loop-at.invariant
+    kind.loop-at-test.true
+    (known kind) sized.body_length-length.ensures called.if-file-start.false
+    (stepped called) c.if-n-ne0.false
 
-returns-4 : tie.Need-returns-4 invariant-loop decreases-loop
+returns-4 : tie.Need-returns invariant-loop decreases-loop
 returns-4 c =
     let here = c.before.before in
-    c.at-end.ensures
-    ∙ over (fileOf here) here.loop.p here.loop.at here.loop.invariant c.before.loop-test.false
+    c.at_end.ensures
+    ∙ over (fileOf here) here.loop-at.p here.loop-at.at here.loop-at.invariant c.loop-at-test.false
 
-pub read-task-spec : {M : Type 1} → statement M
-read-task-spec =
+pub read_task_spec : {M : Type 1} → statement M
+read_task_spec =
     tie.close
     (tie.spec
     invariant-loop

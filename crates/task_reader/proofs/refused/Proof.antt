@@ -3,7 +3,9 @@ use Rattle.task_reader.proofs.refused.Statement.{statement}
 use Rattle.task_reader.proofs.refused.Tie as tie
 
 returns : tie.Need-returns
-returns c = rw c.no-task.ensures
+returns c = rw c.no_task.ensures
 
-pub refused-spec : {M : Type 1} → statement M
-refused-spec = tie.close (tie.spec (λ c κs. tt) returns)
+pub refused_spec : {M : Type 1} → statement M
+refused_spec =
+    tie.close
+    (tie.spec (λ c κs. tt) returns)

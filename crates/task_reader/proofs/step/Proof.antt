@@ -6,41 +6,41 @@ use Rattle.task_reader.specs.Kinds.{defined}
 use Rattle.task_reader.proofs.step.Statement.{statement}
 use Rattle.task_reader.proofs.step.Tie as tie
 
-returns : tie.Need-returns
+returns : tie.Need-returns-in-Header
 unfolding step
 returns c =
-    let a = c.before.before.before.before.args in
-    c.step.ensures ∙ sym (ap (λ k. step (defined k) a.p a.body.now) c.before.enum_told.given.1)
+    let a = c.args in
+    c.step.ensures ∙ sym (ap (λ k. step (defined k) a.p a.body.now) c.in-Header.is)
 
-returns-2 : tie.Need-returns-2
+returns-2 : tie.Need-returns-in-State
 unfolding step
 returns-2 c =
-    let a = c.before.before.before.before.args in
-    c.step2.ensures ∙ sym (ap (λ k. step (defined k) a.p a.body.now) c.before.enum-told2.given.1)
+    let a = c.args in
+    c.step-in-State.ensures ∙ sym (ap (λ k. step (defined k) a.p a.body.now) c.in-State.is)
 
-returns-3 : tie.Need-returns-3
+returns-3 : tie.Need-returns-in-Edge
 unfolding step
 returns-3 c =
-    let a = c.before.before.before.before.args in
-    c.step3.ensures ∙ sym (ap (λ k. step (defined k) a.p a.body.now) c.before.enum-told3.given.1)
+    let a = c.args in
+    c.step-in-Edge.ensures ∙ sym (ap (λ k. step (defined k) a.p a.body.now) c.in-Edge.is)
 
-returns-4 : tie.Need-returns-4
+returns-4 : tie.Need-returns-in-Pair
 unfolding step
 returns-4 c =
-    let a = c.before.before.before.before.args in
-    c.step4.ensures ∙ sym (ap (λ k. step (defined k) a.p a.body.now) c.before.enum-told4.given.1)
+    let a = c.args in
+    c.step-in-Pair.ensures ∙ sym (ap (λ k. step (defined k) a.p a.body.now) c.in-Pair.is)
 
-returns-5 : tie.Need-returns-5
+returns-5 : tie.Need-returns-in-History
 unfolding step
 returns-5 c =
-    let a = c.before.before.before.before.args in
-    c.step5.ensures ∙ sym (ap (λ k. step (defined k) a.p a.body.now) c.before.enum-told5.given.1)
+    let a = c.args in
+    c.step-in-History.ensures ∙ sym (ap (λ k. step (defined k) a.p a.body.now) c.in-History.is)
 
-returns-6 : tie.Need-returns-6
+returns-6 : tie.Need-returns-in-End
 unfolding step
 returns-6 c =
-    let a = c.before.before.before.before.args in
-    c.step6.ensures ∙ sym (ap (λ k. step (defined k) a.p a.body.now) c.before.enum-told6.given.1)
+    let a = c.args in
+    c.step-in-End.ensures ∙ sym (ap (λ k. step (defined k) a.p a.body.now) c.in-End.is)
 
 pub step_spec : {M : Type 1} → statement M
 step_spec =

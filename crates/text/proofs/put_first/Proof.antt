@@ -3,35 +3,31 @@ use borrow.Author.Rules.{rules}
 use Rattle.text.proofs.put_first.Statement.{statement}
 use Rattle.text.proofs.put_first.Tie as tie
 
-returns : tie.Need-returns
-returns c = rw c.before.before.before.before.enum_told.given.1 c.put.ensures
+returns : tie.Need-returns-in-Equal
+returns c = rw c.in-Equal.is c.put.ensures
 
-returns-2 : tie.Need-returns-2
-returns-2 c = rw c.before.before.before.before.enum-told2.given.1 c.put2.ensures
+returns-2 : tie.Need-returns-in-Differ
+returns-2 c = rw c.in-Differ.is c.put-in-Differ.ensures
 
-returns-3 : tie.Need-returns-3
-returns-3 c = rw c.before.before.before.before.enum-told3.given.1 c.put3.ensures
+returns-3 : tie.Need-returns-in-Follows
+returns-3 c = rw c.in-Follows.is c.put-in-Follows.ensures
 
-returns-4 : tie.Need-returns-4
-returns-4 c = rw c.before.before.before.before.enum-told4.given.1 c.put4.ensures
+returns-4 : tie.Need-returns-in-FallsShort
+returns-4 c = rw c.in-FallsShort.is c.put-in-FallsShort.ensures
 
-pub put-first-spec : {M : Type 1} → statement M
-put-first-spec =
+pub put_first_spec : {M : Type 1} → statement M
+put_first_spec =
     tie.close
     (tie.spec
     (λ c. search rules)
     (λ c. search rules)
+    (λ c κs. search rules)
+    (λ c. search rules)
     (λ c. search rules)
     (λ c κs. search rules)
     (λ c. search rules)
     (λ c. search rules)
-    (λ c. search rules)
     (λ c κs. search rules)
-    (λ c. search rules)
-    (λ c. search rules)
-    (λ c. search rules)
-    (λ c κs. search rules)
-    (λ c. search rules)
     (λ c. search rules)
     (λ c. search rules)
     (λ c κs. search rules)

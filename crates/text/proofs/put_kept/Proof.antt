@@ -26,8 +26,8 @@ returns c =
     let numbers = rw part at widened.widen.ensures ∙ filled ∙ sym (kept-numbers max_registers at l start.requires) in
     rw numbers at c.put.ensures
 
-pub put-kept-spec : {M : Type 1} → statement M
-put-kept-spec =
+pub put_kept_spec : {M : Type 1} → statement M
+put_kept_spec =
     tie.close
     (tie.spec
     (λ c. search rules)
@@ -37,7 +37,6 @@ put-kept-spec =
     (λ c. search rules)
     (λ c. search rules)
     (λ c κs. search rules)
-    (λ c. search rules)
     (λ c. search rules)
     (λ c κs. search rules)
     returns)

@@ -14,80 +14,80 @@ use Rattle.text.proofs.put_line.Statement.{statement}
 use Rattle.text.proofs.put_line.Tie as tie
 
 -- where the answer is a verdict: its parts, the certificate buffer, and the record's number in line i
-abbrev verdict : tie.After-answer → Verdict
-verdict c = c.answer.given.0.0
+abbrev verdict : tie.In-Decided → Verdict
+verdict c = c.in-Decided.verdict
 
-abbrev positions : tie.After-answer → ℕ
-positions c = c.answer.given.0.1.0
+abbrev positions : tie.In-Decided → ℕ
+positions c = c.in-Decided.positions
 
-abbrev rounds : tie.After-answer → ℕ
-rounds c = c.answer.given.0.1.1.0
+abbrev rounds : tie.In-Decided → ℕ
+rounds c = c.in-Decided.rounds
 
-abbrev size : tie.After-answer → ℕ
-size c = c.answer.given.0.1.1.1.0
+abbrev size : tie.In-Decided → ℕ
+size c = c.in-Decided.length
 
-abbrev buffer : tie.After-answer → List ℕ
-buffer c = c.before.before.before.before.before.args.certificate.now
+abbrev buffer : tie.In-Decided → List ℕ
+buffer c = c.args.certificate.now
 
-abbrev number : tie.After-answer → ℕ
-number c = c.before.before.before.before.before.args.i - 1
+abbrev number : tie.In-Decided → ℕ
+number c = c.args.i - 1
 
 -- behind the first line, the record is there
-there : (c : tie.Else2) → let known = c.before.before in
+there : (c : tie.Else-i-eq0) → let known = c.before in
     number known < length (take (size known) (buffer known)) / width_of (standing_of (verdict known))
 there c =
-    let known = c.before.before in
-    let some = known.before.before in
-    let count = rw known.answer.given.1 at some.before.line-count.ensures in
+    let known = c.before in
+    let some = known.before in
+    let count = rw known.in-Decided.is at some.line_count.ensures in
     let counted = lines-counted (verdict known) (size known) (buffer known) (positions known) (rounds known) in
-    omega (arith, count, some.if1.false, c.if2.false)
+    omega (arith, count, some.if-line_count-i.false, c.if-i-eq0.false)
 
 -- and lies in the buffer
-inside : (c : tie.After-width) → let known = c.before.before.before.before in
+inside : (c : tie.After-width) → let known = c.before.before.before in
     number known * c.width.result + width_of (standing_of (verdict known)) ≤ length (buffer known)
 inside c =
-    let known = c.before.before.before.before in
+    let known = c.before.before.before in
     let filled = record_inside (verdict known) (size known) (buffer known) (number known) (there c.before.before) in
-    rw (c.width.ensures, c.before.standing.ensures) (omega (arith, length-take (size known) (buffer known)))
+    rw (c.width.ensures, c.standing-standing.ensures) (omega (arith, length-take (size known) (buffer known)))
 
-returns : tie.Need-returns
+returns : tie.Need-returns-then-line_count-i
 returns c =
     let counted = c.before in
-    let a = counted.before.before.args in
-    let past = rw counted.line-count.ensures at c.if1.true in
+    let a = counted.args in
+    let past = rw counted.line_count.ensures at c.if-line_count-i.true in
     rw (get_or-eq_default (lines_of a.answer a.certificate.now) [] {n = a.i} past) (puts_none _ 0 (omega arith))
 
-returns-2 : tie.Need-returns-2
+returns-2 : tie.Need-returns-then-i-eq0
 unfolding lines_of
 returns-2 c =
     let then = c.before.before in
-    rw (then.before.before.answer.given.1, then.if2.true) c.put_first.ensures
+    rw (then.in-Decided.is, then.if-i-eq0.true) c.put_first.ensures
 
-returns-3 : tie.Need-returns-3
+returns-3 : tie.Need-returns-else-i-eq0
 returns-3 c =
     let wide = c.before.before in
     let later = wide.before.before in
-    let known = later.before.before in
-    let next : known.before.before.before.before.before.args.i ≡ suc (number known) = omega (arith, later.if2.false) in
+    let known = later.before in
+    let next : known.args.i ≡ suc (number known) = omega (arith, later.if-i-eq0.false) in
     rw (
-      known.answer.given.1,
+      known.in-Decided.is,
       next,
       line_of_record (verdict known) (size known) (buffer known) (positions known) (rounds known) (number known) (there later),
     )
-    (rw (wide.width.ensures, wide.before.standing.ensures) at c.put_record.ensures)
+    (rw (wide.width.ensures, wide.standing-standing.ensures) at c.put_record.ensures)
 
-returns-4 : tie.Need-returns-4
+returns-4 : tie.Need-returns-in-Refused
 unfolding lines_of
 returns-4 c =
-    let known = c.before.before.before in
-    let some = known.before.before in
-    let refused = known.answer2.given.1 in
-    let count = rw refused at some.before.line-count.ensures in
-    let only : some.before.before.before.args.i ≡ 0 = omega (arith, some.if1.false) in
-    rw (refused, only) c.put-refusal.ensures
+    let known = c.before.before in
+    let some = known.before in
+    let refused = known.in-Refused.is in
+    let count = rw refused at some.line_count.ensures in
+    let only : some.args.i ≡ 0 = omega (arith, some.if-line_count-i.false) in
+    rw (refused, only) c.put_refusal.ensures
 
-pub put-line-spec : {M : Type 1} → statement M
-put-line-spec =
+pub put_line_spec : {M : Type 1} → statement M
+put_line_spec =
     tie.close
     (tie.spec
     (λ c κs. search rules)
@@ -99,7 +99,7 @@ put-line-spec =
     (λ c. search rules)
     (λ c κs. search rules)
     (λ c. omega (arith, inside c))
-    (λ c κs. rw c.before.before.standing.ensures (inside c.before))
+    (λ c κs. rw c.standing-standing.ensures (inside c.before))
     (λ c. search rules)
     (λ c κs. search rules)
     returns-3

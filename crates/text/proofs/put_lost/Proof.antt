@@ -15,7 +15,7 @@ use Rattle.text.proofs.put_lost.Statement.{statement}
 use Rattle.text.proofs.put_lost.Tie as tie
 
 put-requires : tie.Need-put-requires
-put-requires c κs = (omega arith, simp length-set (omega (arith, c.before.before.before.before.before.widen.auto)))
+put-requires c κs = (omega arith, simp length-set (omega (arith, c.widen.auto)))
 
 returns : tie.Need-returns
 returns c =
@@ -32,8 +32,8 @@ returns c =
     refl in
     rw (rw part at widened.widen.ensures, worded.word_at.ensures, last, ← lost-numbers max_registers at l start.requires) at c.put.ensures
 
-pub put-lost-spec : {M : Type 1} → statement M
-put-lost-spec =
+pub put_lost_spec : {M : Type 1} → statement M
+put_lost_spec =
     tie.close
     (tie.spec
     (λ c. search rules)
@@ -44,7 +44,6 @@ put-lost-spec =
     (λ c. search rules)
     (λ c κs. search rules)
     (λ c κs. search rules)
-    (λ c. search rules)
     (λ c. search rules)
     (λ c. search rules)
     (λ c. search rules)

@@ -3,20 +3,20 @@ use borrow.Author.Rules.{rules}
 use Rattle.text.proofs.put_record.Statement.{statement}
 use Rattle.text.proofs.put_record.Tie as tie
 
-put-kept-requires : tie.Need-put-kept-requires
-put-kept-requires c κs = rw c.before.enum_told.given.1 at c.before.before.before.before.requires
+put-kept-requires : tie.Need-put_kept-requires
+put-kept-requires c κs = rw c.in-Kept.is at c.requires
 
-put-lost-requires : tie.Need-put-lost-requires
-put-lost-requires c κs = rw c.before.enum-told2.given.1 at c.before.before.before.before.requires
+put-lost-requires : tie.Need-put_lost-requires
+put-lost-requires c κs = rw c.in-Lost.is at c.requires
 
-returns : tie.Need-returns
-returns c = rw c.before.before.enum_told.given.1 c.put-kept.ensures
+returns : tie.Need-returns-in-Kept
+returns c = rw c.in-Kept.is c.put_kept.ensures
 
-returns-2 : tie.Need-returns-2
-returns-2 c = rw c.before.before.enum-told2.given.1 c.put-lost.ensures
+returns-2 : tie.Need-returns-in-Lost
+returns-2 c = rw c.in-Lost.is c.put_lost.ensures
 
-pub put-record-spec : {M : Type 1} → statement M
-put-record-spec =
+pub put_record_spec : {M : Type 1} → statement M
+put_record_spec =
     tie.close
     (tie.spec
     (λ c. search rules)

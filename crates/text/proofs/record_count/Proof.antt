@@ -11,19 +11,21 @@ use Rattle.text.proofs.Records.{some_byte}
 use Rattle.text.proofs.record_count.Statement.{statement}
 use Rattle.text.proofs.record_count.Tie as tie
 
-div-result : tie.Need-nonzero-div-result
+div-result : tie.Need-nonzero_div-result
 div-result c =
-    let a = c.before.before.before.before.args in
-    omega (arith, c.before.width.ensures, some_byte a.standing)
+    let a = c.args in
+    omega (arith, c.width.ensures, some_byte a.standing)
 
 returns : tie.Need-returns
 returns c =
     let joined = c.before.before in
-    let a = joined.before.before.args in
+    let a = joined.args in
     let long = length-take a.size a.certificate.now in
-    let filled : joined.if1.filled ≡ length (take a.size a.certificate.now) =
-    ⊎_elim (λ w. omega arith) (λ w. omega arith) joined.if1.branch in
-    rw c.before.width.ensures (ap (λ k. k / width_of a.standing) filled)
+    let filled : joined.if-room-size.filled ≡ length (take a.size a.certificate.now) =
+    ⊎_elim (λ w. omega arith) (λ w. omega arith) joined.if-room-size.branch-raw in
+    rw c.width.ensures (ap (λ k. k / width_of a.standing) filled)
 
-pub record-count-spec : {M : Type 1} → statement M
-record-count-spec = tie.close (tie.spec (λ c κs. search rules) div-result returns)
+pub record_count_spec : {M : Type 1} → statement M
+record_count_spec =
+    tie.close
+    (tie.spec (λ c κs. search rules) div-result returns)

@@ -9,20 +9,20 @@ use Rattle.game_replies.proofs.Challenge.after.Tie as tie
 six : (c : tie.Start) → length c.args.p.partners ≡ 6
 six c = search rules
 
-returns : tie.Need-returns
+returns : tie.Need-returns-in-Left
 unfolding after_reply
 returns c =
-    let sized = c.before.before.before in
-    rw (c.before.enum_told.given.1, c.moved.ensures, sized.history-after.ensures, six sized.before.before)
+    let sized = c.before.before in
+    rw (c.in-Left.is, c.moved.ensures, sized.history_after-size.ensures, six sized.before.before)
 
-returns-2 : tie.Need-returns-2
+returns-2 : tie.Need-returns-in-Right
 unfolding after_reply
 returns-2 c =
-    let sized = c.before.before.before in
-    rw (c.before.enum-told2.given.1, c.moved2.ensures, sized.history-after.ensures, six sized.before.before)
+    let sized = c.before.before in
+    rw (c.in-Right.is, c.moved-in-Right.ensures, sized.history_after-size.ensures, six sized.before.before)
 
-pub after-spec : {M : Type 1} → statement M
-after-spec =
+pub after_spec : {M : Type 1} → statement M
+after_spec =
     tie.close
     (tie.spec
     (λ c κs. search rules)

@@ -12,28 +12,29 @@ use Rattle.game_replies.proofs.AttackReplies.{none_before, none_past, by_kind}
 use Rattle.game_replies.proofs.Challenge.is_reply.Statement.{statement}
 use Rattle.game_replies.proofs.Challenge.is_reply.Tie as tie
 
-returns : tie.Need-returns
+returns : tie.Need-returns-then-k-edges
 returns c = λ p a e.
     let start = c.before.before.before.before in
     let k = start.args.k in
     let edges = start.args.self.edges in
     ⊎_elim (λ h. sym (none_before start.requires p a k (rw e at (ltb-true k edges.first h))))
     (λ h. sym (none_past start.requires p a k (rw e at (leb-true edges.end k h))))
-    (or_cases (ltb k edges.first) (leb edges.end k) c.if1.true)
+    (or_cases (ltb k edges.first) (leb edges.end k) c.if-k-edges.true)
 
-returns-2 : tie.Need-returns-2
+returns-2 : tie.Need-returns
 returns-2 c = λ p a e.
     let read = c.before in
     let inside = read.before.before in
     let start = inside.before.before.before.before in
     let k = start.args.k in
     let edges = start.args.self.edges in
-    let first = ltb-false k edges.first (or_false_left _ (leb edges.end k) inside.if1.false) in
-    let end = leb-false edges.end k (or_false_right (ltb k edges.first) _ inside.if1.false) in
+    let first = ltb-false k edges.first (or_false_left _ (leb edges.end k) inside.if-k-edges.false) in
+    let end = leb-false edges.end k (or_false_right (ltb k edges.first) _ inside.if-k-edges.false) in
     c.answers.ensures
-    ∙ rw (read.kind_at.ensures, read.before.other.ensures, e, ← model_in_lem start.args.index.now (other a.side))
+    ∙ rw (read.kind_at-kind.ensures, read.other.ensures, e, ← model_in_lem start.args.index.now (other a.side))
     (sym (by_kind start.requires p a k (rw e at first) (rw e at end)))
 
-pub is-reply-spec : {M : Type 1} → statement M
-is-reply-spec =
-    tie.close (tie.spec returns (λ c κs. search rules) (λ c κs. search rules) (λ c κs. search rules) returns-2)
+pub is_reply_spec : {M : Type 1} → statement M
+is_reply_spec =
+    tie.close
+    (tie.spec returns (λ c κs. search rules) (λ c κs. search rules) (λ c κs. search rules) returns-2)

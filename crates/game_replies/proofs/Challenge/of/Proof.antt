@@ -12,13 +12,13 @@ returns c =
     let start = read.before.before.before in
     let b = start.args.index.now in
     let side = start.args.a.side in
-    let away = read.before.before.other.ensures in
+    let away = read.other-away.ensures in
     rw (
       c.partner.ensures,
-      c.before.tagged.ensures,
+      c.tagged-edges.ensures,
       asked.state.ensures,
-      read.transition-at.ensures,
-      read.before.edge-at.ensures,
+      read.transition_at-transition.ensures,
+      read.edge_at-e.ensures,
       away,
       model_in_lem b side,
       model_in_lem b (other side),

@@ -8,7 +8,7 @@ returns : tie.Need-returns
 unfolding task_in
 returns c =
     let left = c.before.before in
-    rw (left.before.start.ensures, left.state-count.ensures, c.before.state-count2.ensures, c.register-count.ensures)
+    rw (left.start-start.ensures, left.state_count.ensures, c.state_count-2.ensures, c.register_count.ensures)
 
 pub of_spec : {M : Type 1} → statement M
 of_spec =

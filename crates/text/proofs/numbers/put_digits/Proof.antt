@@ -6,36 +6,36 @@ use Rattle.text.proofs.Spelling.{Spelled, spelled_none, spelled_inside, spelled_
 use Rattle.text.proofs.numbers.put_digits.Statement.{statement}
 use Rattle.text.proofs.numbers.put_digits.Tie as tie
 
-abbrev invariant-loop : tie.invariant-loop
+abbrev invariant-loop : tie.invariant-loop-rest
 invariant-loop n line₀ at end i₀ rest₀ line i rest = Spelled n line₀ at i rest line
 
-abbrev decreases-loop : tie.decreases-loop
+abbrev decreases-loop : tie.decreases-loop-rest
 decreases-loop n line₀ at end i₀ rest₀ line i rest = rest
 
-sub-i : tie.Need-overflow-sub-i invariant-loop decreases-loop
+sub-i : tie.Need-overflow_sub-i invariant-loop decreases-loop
 sub-i c = omega (arith, some-digit c.args.n)
 
-loop-holds : tie.Need-loop-init invariant-loop decreases-loop
+loop-holds : tie.Need-loop-rest-init invariant-loop decreases-loop
 loop-holds c = rw c.requires.0 (spelled_none c.args.n c.args.line.now c.args.at)
 
-element-write-line : tie.Need-element-write-line invariant-loop decreases-loop
-element-write-line c = omega (arith, spelled_inside c.before.before.loop.invariant)
+element-write-line : tie.Need-bounds-line-i invariant-loop decreases-loop
+element-write-line c = omega (arith, spelled_inside c.loop-rest.invariant)
 
-sub-i-2 : tie.Need-overflow-sub-i-2 invariant-loop decreases-loop
-sub-i-2 c = spelled_room c.before.before.loop.invariant c.before.loop-test.true
+sub-i-2 : tie.Need-overflow_sub-i-in-loop-rest invariant-loop decreases-loop
+sub-i-2 c = spelled_room c.loop-rest.invariant c.loop-rest-test.true
 
-loop-again : tie.Need-loop-preserved invariant-loop decreases-loop
+loop-again : tie.Need-loop-rest-preserved invariant-loop decreases-loop
 loop-again c =
-    rw c.digit.ensures (spelled_more c.before.before.loop.invariant c.before.loop-test.true)
+    rw c.digit.ensures (spelled_more c.loop-rest.invariant c.loop-rest-test.true)
 
-element-write-line-2 : tie.Need-element-write-line-2 invariant-loop decreases-loop
-element-write-line-2 c = omega (arith, spelled_inside c.before.before.loop.invariant)
+element-write-line-2 : tie.Need-bounds-line-i-2 invariant-loop decreases-loop
+element-write-line-2 c = omega (arith, spelled_inside c.loop-rest.invariant)
 
 returns : tie.Need-returns invariant-loop decreases-loop
-returns c = rw c.digit2.ensures (spelled_all c.before.before.loop.invariant c.before.loop-test.false)
+returns c = rw c.digit-2.ensures (spelled_all c.loop-rest.invariant c.loop-rest-test.false)
 
-pub put-digits-spec : {M : Type 1} → statement M
-put-digits-spec =
+pub put_digits_spec : {M : Type 1} → statement M
+put_digits_spec =
     tie.close
     (tie.spec
     invariant-loop

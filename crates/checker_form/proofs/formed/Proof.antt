@@ -13,49 +13,49 @@ use borrow.Author.Rules.{rules}
 use Rattle.checker_form.proofs.formed.Statement.{statement}
 use Rattle.checker_form.proofs.formed.Tie as tie
 
-abbrev invariant-loop : tie.invariant-loop
+abbrev invariant-loop : tie.invariant-loop-i
 invariant-loop index certificate kind records i₀ i =
     let test = formed_at (task_in index) kind records certificate in
     all test (count 0 records.count) ≡ all test (count i (records.count - i))
 
-abbrev decreases-loop : tie.decreases-loop
+abbrev decreases-loop : tie.decreases-loop-i
 decreases-loop index certificate kind records i₀ i = records.count - i
 
-rem-if1 : tie.Need-nonzero-rem-if1 invariant-loop decreases-loop
-rem-if1 c = omega (arith, c.before.before.requires.position)
+rem-if1 : tie.Need-nonzero_rem-certificate invariant-loop decreases-loop
+rem-if1 c = omega (arith, c.requires.position)
 
-returns : tie.Need-returns invariant-loop decreases-loop
+returns : tie.Need-returns-then-certificate-records-ne0 invariant-loop decreases-loop
 unfolding formed
-returns c = rw (ne_eqb _ _ c.if1.true)
+returns c = rw (ne_eqb _ _ c.if-certificate-records-ne0.true)
 
-loop-holds : tie.Need-loop-init invariant-loop decreases-loop
+loop-holds : tie.Need-loop-i-init invariant-loop decreases-loop
 loop-holds c = rw (sub-zero _)
 
-returns-2 : tie.Need-returns-2 invariant-loop decreases-loop
+returns-2 : tie.Need-returns-then-not-record_formed invariant-loop decreases-loop
 unfolding formed
 returns-2 c =
     let tested = c.before.before in
     let at-loop = tested.before.before in
     rw (
-      eq-eqb _ _ at-loop.before.if1.false,
-      at-loop.loop.invariant,
-      all_stop _ _ _ tested.if2.true (sym c.before.record-formed.ensures ∙ not-true _ c.if3.true),
+      eq-eqb _ _ at-loop.if-certificate-records-ne0.false,
+      at-loop.loop-i.invariant,
+      all_stop _ _ _ tested.loop-i-test.true (sym c.record_formed.ensures ∙ not-true _ c.if-not-record_formed.true-raw),
     )
 
-loop-again : tie.Need-loop-preserved invariant-loop decreases-loop
+loop-again : tie.Need-loop-i-preserved invariant-loop decreases-loop
 loop-again c =
     let tested = c.before.before in
-    tested.before.before.loop.invariant
-    ∙ all_on _ _ _ tested.if2.true (sym c.before.record-formed.ensures ∙ not-false _ c.if3.false)
+    tested.loop-i.invariant
+    ∙ all_on _ _ _ tested.loop-i-test.true (sym c.record_formed.ensures ∙ not-false _ c.if-not-record_formed.false-raw)
 
-returns-3 : tie.Need-returns-3 invariant-loop decreases-loop
+returns-3 : tie.Need-returns invariant-loop decreases-loop
 unfolding formed
 returns-3 c =
     let at-loop = c.before.before in
-    rw (eq-eqb _ _ at-loop.before.if1.false, at-loop.loop.invariant, all_end _ _ _ c.if2.false)
+    rw (eq-eqb _ _ at-loop.if-certificate-records-ne0.false, at-loop.loop-i.invariant, all_end _ _ _ c.loop-i-test.false)
 
-pub formed-spec : {M : Type 1} → statement M
-formed-spec =
+pub formed_spec : {M : Type 1} → statement M
+formed_spec =
     tie.close
     (tie.spec
     invariant-loop

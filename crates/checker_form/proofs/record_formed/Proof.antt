@@ -13,41 +13,41 @@ use Rattle.checker_form.proofs.record_formed.Tie as tie
 room : (c : tie.Start) → c.args.i * c.args.records.width + c.args.records.width ≤ length c.args.certificate.now
 room c = record_room c.args.records c.args.certificate.now c.requires.0 c.args.i c.requires.1
 
-mul-if1 : tie.Need-overflow-mul-if1
+mul-if1 : tie.Need-overflow_mul-i
 mul-if1 c = omega (arith, room c.before.before)
 
-shared-slice-read-if1 : tie.Need-shared-slice-read-if1
+shared-slice-read-if1 : tie.Need-bounds-certificate-i
 shared-slice-read-if1 c =
     let start = c.before.before.before in
     omega (arith, room start, start.requires.0.position)
 
-returns : tie.Need-returns
+returns : tie.Need-returns-then-certificate-i
 unfolding formed_at
-returns c = rw (ne_eqb _ _ c.if1.true)
+returns c = rw (ne_eqb _ _ c.if-certificate-i.true)
 
-returns-2 : tie.Need-returns-2
+returns-2 : tie.Need-returns-then-not-legal
 unfolding formed_at
 returns-2 c =
     let read = c.before.before in
     rw (
-      eq-eqb _ _ read.before.if1.false,
+      eq-eqb _ _ read.if-certificate-i.false,
       ← read.position_at.ensures,
-      sym c.before.legal.ensures ∙ not-true _ c.if2.true,
+      sym c.legal.ensures ∙ not-true _ c.if-not-legal.true-raw,
     )
 
-returns-3 : tie.Need-returns-3
+returns-3 : tie.Need-returns
 unfolding formed_at
 returns-3 c =
     let read = c.before.before.before in
     rw (
-      eq-eqb _ _ read.before.if1.false,
+      eq-eqb _ _ read.if-certificate-i.false,
       ← read.position_at.ensures,
-      sym c.before.before.legal.ensures ∙ not-false _ c.before.if2.false,
+      sym c.legal.ensures ∙ not-false _ c.if-not-legal.false-raw,
     )
     c.rises.ensures
 
-pub record-formed-spec : {M : Type 1} → statement M
-record-formed-spec =
+pub record_formed_spec : {M : Type 1} → statement M
+record_formed_spec =
     tie.close
     (tie.spec
     mul-if1

@@ -6,22 +6,22 @@ use borrow.Author.Rules.{rules}
 use Rattle.checker_form.proofs.rises.Statement.{statement}
 use Rattle.checker_form.proofs.rises.Tie as tie
 
-returns : tie.Need-returns
+returns : tie.Need-returns-then-i-eq0
 unfolding rises_at
-returns c = rw c.if1.true
+returns c = rw c.if-i-eq0.true
 
-returns-2 : tie.Need-returns-2
+returns-2 : tie.Need-returns
 returns-2 c =
-    let a = c.before.before.before.before.before.args in
+    let a = c.args in
     rw (
       rises-after a.records a.certificate.now a.i (omega arith),
-      ← c.before.before.position_at.ensures,
-      ← c.before.position-at2.ensures,
+      ← c.position_at-previous.ensures,
+      ← c.position_at-position.ensures,
     )
-    c.before2.ensures
+    c.before-2.ensures
 
-pub rises-spec : {M : Type 1} → statement M
-rises-spec =
+pub rises_spec : {M : Type 1} → statement M
+rises_spec =
     tie.close
     (tie.spec
     returns

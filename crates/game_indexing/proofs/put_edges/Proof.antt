@@ -43,7 +43,7 @@ loop-again c =
     let (below, done) = at-loop.loop-k.invariant in
     let register = tested.register.ensures in (
       omega arith,
-      rw (c.put_edge.ensures, done, tested.drops-drops.ensures, register, from-set.set_in-to_set.ensures, to_set.set_in-to_set.ensures)
+      rw (c.put_edge.ensures, done, tested.drops-drops.ensures, register, from-set.set_in.ensures, to_set.set_in-to_set.ensures)
           (strings_more (edge_entry m) edge_width (λ e. refl) a.out.now a.at m.edges k no_edge (omega arith)),
     )
 

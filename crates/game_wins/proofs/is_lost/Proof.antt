@@ -9,47 +9,47 @@ use Rattle.game_wins.specs.Judgement.{judged}
 use Rattle.game_wins.proofs.is_lost.Statement.{statement}
 use Rattle.game_wins.proofs.is_lost.Tie as tie
 
-rounds-at-requires : tie.Need-rounds-at-requires
+rounds-at-requires : tie.Need-rounds_at-requires
 rounds-at-requires c κs =
-    let found = c.before in
-    let searched = found.before.before.before.before.before in
+    let found = c in
+    let searched = found.before.before in
     let start = searched.before.before.before in
     let l = start.args.list.now in
     let records = start.args.judge.records in
-    let within = place-within _ (positions_in records l) _ (sym searched.find.ensures ∙ found.place.given.1) in
+    let within = place-within _ (positions_in records l) _ (sym searched.find-place.ensures ∙ found.in-At.is) in
     (start.requires.fitting, omega (arith, positions-length records l))
 
-returns : tie.Need-returns
+returns : tie.Need-returns-in-At
 unfolding judged
 returns c =
-    let found = c.before.before in
-    let tested = found.before.before.before in
-    let searched = tested.before.before in
-    rw (c.rounds-at.ensures, tested.test.given.1, ← searched.find.ensures, found.place.given.1)
+    let found = c.before in
+    let tested = found.before in
+    let searched = tested.before in
+    rw (c.rounds_at.ensures, tested.in-Sooner.is, ← searched.find-place.ensures, found.in-At.is)
 
-returns-2 : tie.Need-returns-2
+returns-2 : tie.Need-returns-in-Nowhere
 unfolding judged
 returns-2 c =
-    let tested = c.before.before.before in
-    let searched = tested.before.before in
-    rw (tested.test.given.1, ← searched.find.ensures, c.enum_told.given.1)
+    let tested = c.before in
+    let searched = tested.before in
+    rw (tested.in-Sooner.is, ← searched.find-place.ensures, c.in-Nowhere.is)
 
-returns-3 : tie.Need-returns-3
+returns-3 : tie.Need-returns-in-At-place
 unfolding judged
 returns-3 c =
-    let tested = c.before.before in
-    let searched = tested.before.before in
-    rw (tested.enum-told2.given.1, ← searched.find.ensures, c.enum-told3.given.1)
+    let tested = c.before in
+    let searched = tested.before in
+    rw (tested.in-Unlisted.is, ← searched.find-place.ensures, c.in-At-place.is)
 
-returns-4 : tie.Need-returns-4
+returns-4 : tie.Need-returns-in-Nowhere-place
 unfolding judged
 returns-4 c =
-    let tested = c.before.before in
-    let searched = tested.before.before in
-    rw (tested.enum-told2.given.1, ← searched.find.ensures, c.enum-told4.given.1)
+    let tested = c.before in
+    let searched = tested.before in
+    rw (tested.in-Unlisted.is, ← searched.find-place.ensures, c.in-Nowhere-place.is)
 
-pub is-lost-spec : {M : Type 1} → statement M
-is-lost-spec =
+pub is_lost_spec : {M : Type 1} → statement M
+is_lost_spec =
     tie.close
     (tie.spec
     (λ c κs. search rules)

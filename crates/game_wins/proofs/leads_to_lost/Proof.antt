@@ -5,23 +5,24 @@ use Rattle.game_wins.specs.Judgement.{judged_among}
 use Rattle.game_wins.proofs.leads_to_lost.Statement.{statement}
 use Rattle.game_wins.proofs.leads_to_lost.Tie as tie
 
-returns : tie.Need-returns
+returns : tie.Need-returns-then-not-may_be_lost
 unfolding judged_among
 returns c =
     let tested = c.before in
-    rw (← tested.may-be-lost.ensures tested.before.before.args.p, not-true tested.may-be-lost.result c.if1.true)
+    rw (← tested.may_be_lost.ensures tested.args.p, not-true tested.may_be_lost.result c.if-not-may_be_lost.true-raw)
 
-returns-2 : tie.Need-returns-2
+returns-2 : tie.Need-returns
 unfolding judged_among
 returns-2 c =
     let tested = c.before.before.before in
     rw (
       c.is_lost.ensures,
-      c.before.after.ensures,
-      ← tested.may-be-lost.ensures tested.before.before.args.p,
-      not-false tested.may-be-lost.result c.before.before.if1.false,
+      c.after.ensures,
+      ← tested.may_be_lost.ensures tested.args.p,
+      not-false tested.may_be_lost.result c.if-not-may_be_lost.false-raw,
     )
 
-pub leads-to-lost-spec : {M : Type 1} → statement M
-leads-to-lost-spec =
-    tie.close (tie.spec (λ c κs. search rules) returns (λ c κs. search rules) (λ c κs. search rules) returns-2)
+pub leads_to_lost_spec : {M : Type 1} → statement M
+leads_to_lost_spec =
+    tie.close
+    (tie.spec (λ c κs. search rules) returns (λ c κs. search rules) (λ c κs. search rules) returns-2)

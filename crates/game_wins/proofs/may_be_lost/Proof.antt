@@ -5,14 +5,15 @@ use Rattle.game_replies.specs.Challenges.{after_reply}
 use Rattle.game_wins.proofs.may_be_lost.Statement.{statement}
 use Rattle.game_wins.proofs.may_be_lost.Tie as tie
 
-returns : tie.Need-returns
+returns : tie.Need-returns-in-Left
 unfolding after_reply moved_to
-returns c = λ p. rw (c.before.enum_told.given.1, c.has.ensures)
+returns c = λ p. rw (c.in-Left.is, c.has.ensures)
 
-returns-2 : tie.Need-returns-2
+returns-2 : tie.Need-returns-in-Right
 unfolding after_reply moved_to
-returns-2 c = λ p. rw (c.before.enum-told2.given.1, c.has2.ensures)
+returns-2 c = λ p. rw (c.in-Right.is, c.has-in-Right.ensures)
 
-pub may-be-lost-spec : {M : Type 1} → statement M
-may-be-lost-spec =
-    tie.close (tie.spec (λ c. search rules) (λ c κs. search rules) (λ c. search rules) (λ c κs. search rules) returns returns-2)
+pub may_be_lost_spec : {M : Type 1} → statement M
+may_be_lost_spec =
+    tie.close
+    (tie.spec (λ c. search rules) (λ c κs. search rules) (λ c. search rules) (λ c κs. search rules) returns returns-2)

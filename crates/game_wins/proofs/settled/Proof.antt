@@ -19,76 +19,76 @@ use Rattle.game_wins.proofs.SettledAttacks.{wins_from, wins_none, wins-next, win
 use Rattle.game_wins.proofs.settled.Statement.{statement}
 use Rattle.game_wins.proofs.settled.Tie as tie
 
-abbrev invariant-loop : tie.invariant-loop
+abbrev invariant-loop : tie.invariant-loop-edge
 invariant-loop list judge losing index p challenge from₀ from =
     wins_by (task_in index) (judged_among losing list judge) p (attack_of challenge)
     ≡ wins_from (judged_among losing list judge) (task_in index) p (attack_of challenge) from
 
-abbrev decreases-loop : tie.decreases-loop
+abbrev decreases-loop : tie.decreases-loop-edge
 decreases-loop list judge losing index p challenge from₀ from = length (replies_from (task_in index) p (attack_of challenge) from)
 
 -- the reply that was found is the next one
-next : (c : tie.After-known-told invariant-loop decreases-loop) → let at-loop = c.before.before.before.before in
-    let a = at-loop.before.before.args in
-    NextReply (task_in a.index.now) a.p (attack_of a.challenge) at-loop.loop.from c.before.reply.given.0.0
-    c.before.reply.given.0.1.0
+next : (c : tie.In-By invariant-loop decreases-loop) → let at-loop = c.before.before in
+    let a = at-loop.args in
+    NextReply (task_in a.index.now) a.p (attack_of a.challenge) at-loop.loop-edge.from c.in-By.edge
+    c.in-By.target
 next c =
-    let found = c.before in
-    let searched = found.before.before in
+    let found = c in
+    let searched = found.before in
     let start = searched.before.before.before in
-    reply_found _ _ _ _ (searched.next-reply.ensures start.args.p (attack_of start.args.challenge) start.requires.1.1)
-    found.reply.given.1
+    reply_found _ _ _ _ (searched.next_reply-reply.ensures start.args.p (attack_of start.args.challenge) start.requires.1.1)
+    found.in-By.is
 
 -- what is left to settle is whether it leads to a lost position, and what is left after it
-left : (c : tie.After-leads-to-lost invariant-loop decreases-loop) → let found = c.before.before in
-    let at-loop = found.before.before.before in
-    let a = at-loop.before.before.args in
+left : (c : tie.After-leads_to_lost invariant-loop decreases-loop) → let found = c.before in
+    let at-loop = found.before.before in
+    let a = at-loop.args in
     let lost = judged_among a.losing.now a.list.now a.judge in
     wins_by (task_in a.index.now) lost a.p (attack_of a.challenge)
-    ≡ (c.leads-to-lost.result
-    && wins_from lost (task_in a.index.now) a.p (attack_of a.challenge) (found.reply.given.0.0 + 1))
+    ≡ (c.leads_to_lost.result
+    && wins_from lost (task_in a.index.now) a.p (attack_of a.challenge) (found.in-By.edge + 1))
 left c =
-    let at-loop = c.before.before.before.before.before in
+    let at-loop = c.before.before.before in
     let start = at-loop.before.before in
-    at-loop.loop.invariant
+    at-loop.loop-edge.invariant
     ∙ wins-next _ _ _ _ _ start.requires.1.1 (next c.before)
-    ∙ rw c.leads-to-lost.ensures
+    ∙ rw c.leads_to_lost.ensures
 
-loop-holds : tie.Need-loop-init invariant-loop decreases-loop
+loop-holds : tie.Need-loop-edge-init invariant-loop decreases-loop
 loop-holds c = wins-all _ _ _ _
 
-returns : tie.Need-returns invariant-loop decreases-loop
+returns : tie.Need-returns-in_default invariant-loop decreases-loop
 returns c =
-    let searched = c.before.before in
+    let searched = c.before in
     let start = searched.before.before.before in
     let none_left =
-    reply_missing _ _ _ _ (searched.next-reply.ensures start.args.p (attack_of start.args.challenge) start.requires.1.1)
-    c.enum_told.given.1 in
-    sym (searched.before.loop.invariant ∙ wins_none _ _ _ _ _ none_left)
+    reply_missing _ _ _ _ (searched.next_reply-reply.ensures start.args.p (attack_of start.args.challenge) start.requires.1.1)
+    c.in_default.is in
+    sym (searched.loop-edge.invariant ∙ wins_none _ _ _ _ _ none_left)
 
-returns-2 : tie.Need-returns-2 invariant-loop decreases-loop
+returns-2 : tie.Need-returns-then-not-leads_to_lost invariant-loop decreases-loop
 returns-2 c =
     let tested = c.before in
-    sym (left tested ∙ rw (not-true tested.leads-to-lost.result c.if1.true))
+    sym (left tested ∙ rw (not-true tested.leads_to_lost.result c.if-not-leads_to_lost.true-raw))
 
-add-from : tie.Need-overflow-add-from invariant-loop decreases-loop
+add-from : tie.Need-overflow_add-from invariant-loop decreases-loop
 add-from c =
     let found = c.before.before in
-    let start = found.before.before.before.before.before.before in
+    let start = found.before.before.before.before in
     let exists = (next found).exists in
     let few = few_edges start.requires.1.0 (other start.args.challenge.side) in
     search (rules, exists, few)
 
-loop-less : tie.Need-loop-smaller invariant-loop decreases-loop
+loop-less : tie.Need-loop-edge-smaller invariant-loop decreases-loop
 loop-less c = rw (next c.before.before).first (omega arith)
 
-loop-again : tie.Need-loop-preserved invariant-loop decreases-loop
+loop-again : tie.Need-loop-edge-preserved invariant-loop decreases-loop
 loop-again c =
     let tested = c.before in
-    left tested ∙ rw (not-false tested.leads-to-lost.result c.if1.false)
+    left tested ∙ rw (not-false tested.leads_to_lost.result c.if-not-leads_to_lost.false-raw)
 
-pub settled-spec : {M : Type 1} → statement M
-settled-spec =
+pub settled_spec : {M : Type 1} → statement M
+settled_spec =
     tie.close
     (tie.spec
     invariant-loop

@@ -14,51 +14,51 @@ use Rattle.game_wins.proofs.WinAnswers.{winner_none, winner-some}
 use Rattle.game_wins.proofs.side_win.Statement.{statement}
 use Rattle.game_wins.proofs.side_win.Tie as tie
 
-abbrev invariant-loop : tie.invariant-loop
+abbrev invariant-loop : tie.invariant-loop-k
 invariant-loop list judge losing index p side end k₀ k =
     side_win (judged_among losing list judge) index p side
     ≡ win_of (first (wins_by (task_in index) (judged_among losing list judge) p) (attacks_within (task_in index) p side k end))
 
-abbrev decreases-loop : tie.decreases-loop
+abbrev decreases-loop : tie.decreases-loop-k
 decreases-loop list judge losing index p side end k₀ k = end - k
 
-returns : tie.Need-returns invariant-loop decreases-loop
+returns : tie.Need-returns-then-not-attacks invariant-loop decreases-loop
 unfolding first
 returns c =
     let asked = c.before in
-    let a = asked.before.before.args in
+    let a = asked.args in
     let b = a.index.now in
-    let idle = sym asked.attacks.ensures ∙ not-true asked.attacks.result c.if1.true in
+    let idle = sym asked.attacks.ensures ∙ not-true asked.attacks.result c.if-not-attacks.true-raw in
     rw (side_idle (rules_in b) (task_in b) a.p a.side idle)
 
-loop-holds : tie.Need-loop-init invariant-loop decreases-loop
+loop-holds : tie.Need-loop-k-init invariant-loop decreases-loop
 loop-holds c =
     let attacking = c.before.before in
     let asked = attacking.before in
     let start = asked.before.before in
-    let attacks = sym asked.attacks.ensures ∙ not-false asked.attacks.result attacking.if1.false in
+    let attacks = sym asked.attacks.ensures ∙ not-false asked.attacks.result attacking.if-not-attacks.false-raw in
     let range = side_by_range start.requires.1 start.args.p start.args.side attacks in
-    rw (range, c.edges-of.ensures, c.before.state.ensures)
+    rw (range, c.edges_of-edges.ensures, c.state.ensures)
 
-returns-2 : tie.Need-returns-2 invariant-loop decreases-loop
+returns-2 : tie.Need-returns-in-By invariant-loop decreases-loop
 returns-2 c =
-    let searched = c.before.before.before in
+    let searched = c.before in
     let inside = searched.before in
-    let wins = winner-some _ (sym searched.edge-win.ensures ∙ c.before.win.given.1) in
-    sym (inside.before.loop.invariant ∙ ap win_of (edge-wins _ _ _ _ _ _ inside.loop-test.true wins))
+    let wins = winner-some _ (sym searched.edge_win-win.ensures ∙ c.in-By.is) in
+    sym (inside.loop-k.invariant ∙ ap win_of (edge-wins _ _ _ _ _ _ inside.loop-k-test.true wins))
 
-loop-again : tie.Need-loop-preserved invariant-loop decreases-loop
+loop-again : tie.Need-loop-k-preserved invariant-loop decreases-loop
 loop-again c =
-    let searched = c.before.before in
+    let searched = c.before in
     let inside = searched.before in
-    let fails = winner_none _ (sym searched.edge-win.ensures ∙ c.enum_told.given.1) in
-    inside.before.loop.invariant ∙ ap win_of (edge_fails _ _ _ _ _ _ inside.loop-test.true fails)
+    let fails = winner_none _ (sym searched.edge_win-win.ensures ∙ c.in_default.is) in
+    inside.loop-k.invariant ∙ ap win_of (edge_fails _ _ _ _ _ _ inside.loop-k-test.true fails)
 
-returns-3 : tie.Need-returns-3 invariant-loop decreases-loop
-returns-3 c = sym (c.before.loop.invariant ∙ ap win_of (no_edge-wins _ _ _ _ _ _ c.loop-test.false))
+returns-3 : tie.Need-returns invariant-loop decreases-loop
+returns-3 c = sym (c.loop-k.invariant ∙ ap win_of (no_edge-wins _ _ _ _ _ _ c.loop-k-test.false))
 
-pub side-win-spec : {M : Type 1} → statement M
-side-win-spec =
+pub side_win_spec : {M : Type 1} → statement M
+side_win_spec =
     tie.close
     (tie.spec
     invariant-loop

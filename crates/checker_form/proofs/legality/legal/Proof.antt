@@ -13,20 +13,20 @@ use Rattle.checker_form.proofs.legality.legal.Tie as tie
 six : (c : tie.Start) → length c.args.p.partners ≡ 6
 six c = search rules
 
-returns : tie.Need-returns
+returns : tie.Need-returns-then-state_count-p
 unfolding legal task_in
-returns c = rw (← c.before.before.state-count.ensures, le-ltb _ _ c.if1.true)
+returns c = rw (← c.state_count.ensures, le-ltb _ _ c.if-state_count-p.true)
 
-returns-2 : tie.Need-returns-2
+returns-2 : tie.Need-returns-then-state_count-p-2
 unfolding legal task_in
 returns-2 c =
     let second = c.before.before in
     let first = second.before in
     rw (
-      ← first.before.before.state-count.ensures,
-      lt-ltb _ _ first.if1.false,
-      ← second.state-count2.ensures,
-      le-ltb _ _ c.if2.true,
+      ← first.state_count.ensures,
+      lt-ltb _ _ first.if-state_count-p.false,
+      ← second.state_count-2.ensures,
+      le-ltb _ _ c.if-state_count-p-2.true,
     )
 
 -- the states exist, and the partners were matched with the sets of these
@@ -42,21 +42,21 @@ tested c =
     let at_second = sets.before.before in
     let second = at_second.before.before in
     let first = second.before in
-    let few = rw first.before.before.state-count.ensures at first.if1.false in
-    let few2 = rw second.state-count2.ensures at at_second.if2.false in
+    let few = rw first.state_count.ensures at first.if-state_count-p.false in
+    let few2 = rw second.state_count-2.ensures at at_second.if-state_count-p-2.false in
     rw (
       lt-ltb _ _ few,
       lt-ltb _ _ few2,
       eq-eqb _ _ (six first.before.before.before.before),
       c.matching.ensures,
-      sets.before.set-of.ensures,
-      sets.set-of2.ensures,
+      sets.set_of-left.ensures,
+      sets.set_of-right.ensures,
     )
 
-returns-3 : tie.Need-returns-3
-returns-3 c = sym (tested c.before ∙ rw (not-true c.before.matching.result c.if3.true))
+returns-3 : tie.Need-returns-then-not-matching
+returns-3 c = sym (tested c.before ∙ rw (not-true c.matching.result c.if-not-matching.true-raw))
 
-returns-4 : tie.Need-returns-4
+returns-4 : tie.Need-returns
 unfolding task_in
 returns-4 c =
     let counted = c.before.before in
@@ -65,10 +65,10 @@ returns-4 c =
     let sets = call.before in
     sym
     (tested call
-    ∙ rw (not-false call.matching.result matched.if3.false, counted.held.ensures, sets.before.set-of.ensures, sets.set-of2.ensures))
+    ∙ rw (not-false call.matching.result matched.if-not-matching.false-raw, counted.held.ensures, sets.set_of-left.ensures, sets.set_of-right.ensures))
 
-pub legal-spec : {M : Type 1} → statement M
-legal-spec =
+pub legal_spec : {M : Type 1} → statement M
+legal_spec =
     tie.close
     (tie.spec
     (λ c κs. search rules)

@@ -12,55 +12,55 @@ use borrow.Author.Rules.{rules}
 use Rattle.checker_form.proofs.legality.matching.Statement.{statement}
 use Rattle.checker_form.proofs.legality.matching.Tie as tie
 
-abbrev invariant-loop : tie.invariant-loop
+abbrev invariant-loop : tie.invariant-loop-i
 invariant-loop left right partners i₀ i =
     (i ≤ 6)
     × (length partners ≡ 6)
     × (matching left right 1 partners ≡ matching left right (i + 1) (drop i partners))
 
-abbrev decreases-loop : tie.decreases-loop
+abbrev decreases-loop : tie.decreases-loop-i
 decreases-loop left right partners i₀ i = 6 - i
 
 -- what `partner_fits` says of the partner at place `i`
-tested : (c : tie.After-partner-fits invariant-loop decreases-loop)
+tested : (c : tie.After-partner_fits invariant-loop decreases-loop)
     → let at-loop = c.before.before.before.before in
-    let a = at-loop.before.args in
-    c.partner-fits.result ≡ partner_fits a.left a.right a.t3 at-loop.loop.i
+    let a = at-loop.args in
+    c.partner_fits.result ≡ partner_fits a.left a.right a.partners at-loop.loop-i.i
 tested c =
     let at-loop = c.before.before.before.before in
-    let a = at-loop.before.args in
-    let i = at-loop.loop.i in
-    let long = at-loop.loop.invariant.1 in
-    let e = take_all (6 - (i + 1)) (drop (i + 1) a.t3) (rw length-drop (omega arith)) in
-    rw (← e) c.partner-fits.ensures
+    let a = at-loop.args in
+    let i = at-loop.loop-i.i in
+    let long = at-loop.loop-i.invariant.1 in
+    let e = take_all (6 - (i + 1)) (drop (i + 1) a.partners) (rw length-drop (omega arith)) in
+    rw (← e) c.partner_fits.ensures
 
-loop-holds : tie.Need-loop-init invariant-loop decreases-loop
+loop-holds : tie.Need-loop-i-init invariant-loop decreases-loop
 loop-holds c = (search rules, search rules, refl)
 
-returns : tie.Need-returns invariant-loop decreases-loop
+returns : tie.Need-returns-then-not-partner_fits invariant-loop decreases-loop
 returns c =
     let at-loop = c.before.before.before.before.before in
-    let a = at-loop.before.args in
-    let (_, long, rest) = at-loop.loop.invariant in
-    let fails = sym (tested c.before) ∙ not-true _ c.if1.true in
-    sym (rest ∙ matching_stop a.left a.right a.t3 at-loop.loop.i (omega arith) fails)
+    let a = at-loop.args in
+    let (_, long, rest) = at-loop.loop-i.invariant in
+    let fails = sym (tested c.before) ∙ not-true _ c.if-not-partner_fits.true-raw in
+    sym (rest ∙ matching_stop a.left a.right a.partners at-loop.loop-i.i (omega arith) fails)
 
-loop-again : tie.Need-loop-preserved invariant-loop decreases-loop
+loop-again : tie.Need-loop-i-preserved invariant-loop decreases-loop
 loop-again c =
     let at-loop = c.before.before.before.before.before in
-    let a = at-loop.before.args in
-    let (_, long, rest) = at-loop.loop.invariant in
-    let passes = sym (tested c.before) ∙ not-false _ c.if1.false in
-    (omega arith, long, rest ∙ matching_on a.left a.right a.t3 at-loop.loop.i (omega arith) passes)
+    let a = at-loop.args in
+    let (_, long, rest) = at-loop.loop-i.invariant in
+    let passes = sym (tested c.before) ∙ not-false _ c.if-not-partner_fits.false-raw in
+    (omega arith, long, rest ∙ matching_on a.left a.right a.partners at-loop.loop-i.i (omega arith) passes)
 
-returns-2 : tie.Need-returns-2 invariant-loop decreases-loop
+returns-2 : tie.Need-returns invariant-loop decreases-loop
 returns-2 c =
-    let a = c.before.before.args in
-    let (_, long, rest) = c.before.loop.invariant in
-    sym (rest ∙ matching-end a.left a.right a.t3 c.before.loop.i (omega arith))
+    let a = c.args in
+    let (_, long, rest) = c.loop-i.invariant in
+    sym (rest ∙ matching-end a.left a.right a.partners c.loop-i.i (omega arith))
 
-pub matching-spec : {M : Type 1} → statement M
-matching-spec =
+pub matching_spec : {M : Type 1} → statement M
+matching_spec =
     tie.close
     (tie.spec
     invariant-loop

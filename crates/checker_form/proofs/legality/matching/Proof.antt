@@ -23,11 +23,11 @@ decreases-loop left right partners i₀ i = 6 - i
 
 -- what `partner_fits` says of the partner at place `i`
 tested : (c : tie.After-partner_fits invariant-loop decreases-loop)
-    → let at-loop = c.before.before.before.before in
+    → let at-loop = c in
     let a = at-loop.args in
     c.partner_fits.result ≡ partner_fits a.left a.right a.partners at-loop.loop-i.i
 tested c =
-    let at-loop = c.before.before.before.before in
+    let at-loop = c in
     let a = at-loop.args in
     let i = at-loop.loop-i.i in
     let long = at-loop.loop-i.invariant.1 in
@@ -39,7 +39,7 @@ loop-holds c = (search rules, search rules, refl)
 
 returns : tie.Need-returns-then-not-partner_fits invariant-loop decreases-loop
 returns c =
-    let at-loop = c.before.before.before.before.before in
+    let at-loop = c in
     let a = at-loop.args in
     let (_, long, rest) = at-loop.loop-i.invariant in
     let fails = sym (tested c.before) ∙ not-true _ c.if-not-partner_fits.true-raw in
@@ -47,7 +47,7 @@ returns c =
 
 loop-again : tie.Need-loop-i-preserved invariant-loop decreases-loop
 loop-again c =
-    let at-loop = c.before.before.before.before.before in
+    let at-loop = c in
     let a = at-loop.args in
     let (_, long, rest) = at-loop.loop-i.invariant in
     let passes = sym (tested c.before) ∙ not-false _ c.if-not-partner_fits.false-raw in

@@ -22,9 +22,11 @@ put_back at table part h e =
 
 returns : tie.Need-returns
 returns c =
-    let start = c.before.before.before.before.before in
-    let cleared = c.before.before.clear in
-    put_back start.args.at start.args.table.now cleared.new.0 start.requires cleared.ensures
+    let start = c in
+    let cleared = c.clear in
+    put_back start.args.at start.args.table.now cleared.new.table start.requires cleared.ensures
 
-pub clear-from-spec : {M : Type 1} → statement M
-clear-from-spec = tie.close (tie.spec (λ c. search rules) (λ c. search rules) (λ c. search rules) (λ c κs. search rules) (λ c. search rules) returns)
+pub clear_from_spec : {M : Type 1} → statement M
+clear_from_spec =
+    tie.close
+    (tie.spec (λ c. search rules) (λ c. search rules) (λ c. search rules) (λ c κs. search rules) (λ c. search rules) returns)

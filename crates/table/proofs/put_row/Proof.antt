@@ -18,17 +18,17 @@ six c = search rules
 returns : tie.Need-returns
 unfolding row word
 returns c =
-    let second = c.before.before in
-    let first = second.before.before.before.before in
-    let start = first.before.before.before in
+    let second = c in
+    let first = second in
+    let start = first.before.before.before.before.before.before.before.before.before in
     let p = start.args.p in
     let at = start.args.i * entry_width in
     let place = ap (λ (k : ℕ). at + k) (bytes-length p (six start)) in
-    rw (second.put_word.ensures, first.put-position.ensures, ← place)
+    rw (second.put_word.ensures, first.put_position.ensures, ← place)
     (sym (sets_append start.args.table.now at (bytes p) (word all_ones)))
 
-pub put-row-spec : {M : Type 1} → statement M
-put-row-spec =
+pub put_row_spec : {M : Type 1} → statement M
+put_row_spec =
     tie.close
     (tie.spec
     (λ c. search rules)

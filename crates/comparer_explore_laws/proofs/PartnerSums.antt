@@ -1,7 +1,7 @@
 -- How the number of the partners changes in a round that drops no register: the register that is written counts its new partner
 -- and no longer its old one, and the pair of the right register is taken out. For any register count. Assumes nothing.
 use Prim.Native.Nat.{ℕ, zero, suc, ◌+◌, ◌*◌, ◌-◌, ◌^◌, ◌≤◌, ◌<◌}
-use mathlib.Core.Path.{◌≡◌, refl, sym, ◌∙◌, ap}
+use mathlib.Core.Path.{◌≡◌, refl, sym, ◌∙◌, ap, subst}
 use mathlib.Core.Bool.{Bool, true, false, cond}
 use mathlib.Core.List.{List, [], ◌∷◌}
 use native.Mathlib.Nat.{le_trans, add-zero, zero-mul, add-mul, mul_assoc, mul-one, pow-zero, pow-succ'}
@@ -137,7 +137,7 @@ adds-more l adds i n e h a =
         → get_or (set adds x (get_or adds x 0 + x * place_of n)) b 0 ≡ added_by b (x ∷ drop (suc i) l)
     step b k (yes d) =
         rw (d, get_or-set_same adds x (get_or adds x 0 + x * place_of n) 0 (omega (arith, a.long)), eq-eqb x x refl, last)
-        (omega (arith, a.each x h))
+        (omega (arith, subst (λ (y : ℕ). get_or adds y 0 ≡ added_by b (drop (suc i) l)) d (a.each b k)))
     step b k (no d) =
         rw (get_or-set_other adds x b (get_or adds x 0 + x * place_of n) 0 d, ne_eqb x b (λ s. d (sym s)))
         (omega (arith, a.each b k))

@@ -3,11 +3,13 @@ use borrow.Author.Rules.{rules}
 use Rattle.comparer_marks.proofs.is_listed.Statement.{statement}
 use Rattle.comparer_marks.proofs.is_listed.Tie as tie
 
-returns : tie.Need-returns
-returns c = rw c.enum_told.given.1
+returns : tie.Need-returns-in-Kept
+returns c = rw c.in-Kept.is
 
-returns-2 : tie.Need-returns-2
-returns-2 c = rw c.before.enum-told2.given.1 c.is-marked.ensures
+returns-2 : tie.Need-returns-in-Lost
+returns-2 c = rw c.in-Lost.is c.is_marked.ensures
 
-pub is-listed-spec : {M : Type 1} → statement M
-is-listed-spec = tie.close (tie.spec (λ c. search rules) (λ c. search rules) (λ c κs. search rules) returns returns-2)
+pub is_listed_spec : {M : Type 1} → statement M
+is_listed_spec =
+    tie.close
+    (tie.spec (λ c. search rules) (λ c. search rules) (λ c κs. search rules) returns returns-2)

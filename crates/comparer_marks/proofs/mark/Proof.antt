@@ -15,64 +15,64 @@ use Rattle.comparer_marks.proofs.mark.Statement.{statement}
 use Rattle.comparer_marks.proofs.mark.Tie as tie
 
 -- the place is that of the position
-found : (c : tie.After-known-told) → let entries = c.before.before.before.before.before in
-    let a = entries.before.before.args in
-    place_of a.q (positions_in (of_table a.n) a.table.now) ≡ At c.before.place.given.0.0
+found : (c : tie.In-At) → let entries = c in
+    let a = entries.args in
+    place_of a.q (positions_in (of_table a.n) a.table.now) ≡ At c.in-At.i
 found c =
-    let searched = c.before.before.before in
-    rw searched.before.before.of-table.ensures at (sym searched.find.ensures ∙ c.before.place.given.1)
+    let searched = c in
+    rw searched.of_table-entries.ensures at (sym searched.find-place.ensures ∙ c.in-At.is)
 
 -- the entry is one of the n, and lies in the table
-within : (c : tie.After-known-told) → let entries = c.before.before.before.before.before in
-    c.before.place.given.0.0 < entries.before.before.args.n
+within : (c : tie.In-At) → let entries = c in
+    c.in-At.i < entries.args.n
 within c =
-    let entries = c.before.before.before.before.before in
-    let a = entries.before.before.args in
+    let entries = c in
+    let a = entries.args in
     found-entry a.n a.table.now a.q (found c)
 
-room : (c : tie.After-known-told) → let entries = c.before.before.before.before.before in
-    c.before.place.given.0.0 * entry_width + entry_width ≤ length entries.before.before.args.table.now
+room : (c : tie.In-At) → let entries = c in
+    c.in-At.i * entry_width + entry_width ≤ length entries.args.table.now
 room c =
-    let entries = c.before.before.before.before.before in
-    let start = entries.before.before in
+    let entries = c in
+    let start = entries in
     record_room (of_table start.args.n) start.args.table.now start.requires.fitting _ (within c)
 
-find-requires : tie.Need-find-requires
-find-requires c κs = let entries = c.before in rw entries.of-table.ensures entries.before.before.requires
+find-requires : tie.Need-find-place-requires
+find-requires c κs = let entries = c in rw entries.of_table-entries.ensures entries.requires
 
-returns : tie.Need-returns
+returns : tie.Need-returns-in_default
 unfolding marked
 returns c =
-    let searched = c.before.before in
-    rw (← searched.before.before.of-table.ensures, ← searched.find.ensures, c.enum_told.given.1)
+    let searched = c in
+    rw (← searched.of_table-entries.ensures, ← searched.find-place.ensures, c.in_default.is)
 
-rounds-at-requires : tie.Need-rounds-at-requires
+rounds-at-requires : tie.Need-rounds_at-rounds-requires
 rounds-at-requires c κs =
-    let found = c.before in
-    let entries = found.before.before.before.before.before in
-    rw entries.of-table.ensures (entries.before.before.requires.fitting, within found)
+    let found = c in
+    let entries = found in
+    rw entries.of_table-entries.ensures (entries.requires.fitting, within found)
 
-mul-put-word : tie.Need-overflow-mul-put-word
-mul-put-word c = omega (arith, room c.before.before.before)
+mul-put-word : tie.Need-overflow_mul-i
+mul-put-word c = omega (arith, room c.before.before)
 
-add-put-word : tie.Need-overflow-add-put-word
-add-put-word c = omega (arith, room c.before.before.before)
+add-put-word : tie.Need-overflow_add-i
+add-put-word c = omega (arith, room c.before.before)
 
-put-word-requires : tie.Need-put-word-requires
-put-word-requires c κs = omega (arith, room c.before.before.before.before)
+put-word-requires : tie.Need-put_word-requires
+put-word-requires c κs = omega (arith, room c.before.before.before)
 
-returns-2 : tie.Need-returns-2
+returns-2 : tie.Need-returns
 unfolding marked
 returns-2 c =
-    let put = c.before.before in
-    let read = put.before.before.before in
-    let told = read.before.before in
-    let entries = told.before.before.before.before.before in
+    let put = c in
+    let read = put in
+    let told = read.before.before.before.before.before.before in
+    let entries = told in
     rw (
       put.put_word.ensures,
-      put.before.with-mark.ensures,
-      read.rounds-at.ensures,
-      entries.of-table.ensures,
+      put.with_mark.ensures,
+      read.rounds_at-rounds.ensures,
+      entries.of_table-entries.ensures,
       found told,
     )
 

@@ -12,52 +12,52 @@ use Rattle.comparer_marks.specs.Scaling.{scaled}
 use Rattle.comparer_marks.proofs.rescale.Statement.{statement}
 use Rattle.comparer_marks.proofs.rescale.Tie as tie
 
-abbrev invariant-loop : tie.invariant-loop
+abbrev invariant-loop : tie.invariant-loop-i
 invariant-loop table₀ n scale entries i₀ table i =
     (i ≤ n) × (length table ≡ length table₀) × (table ≡ changed (scaled scale) i table₀)
 
-abbrev decreases-loop : tie.decreases-loop
+abbrev decreases-loop : tie.decreases-loop-i
 decreases-loop table₀ n scale entries i₀ table i = n - i
 
-loop-holds : tie.Need-loop-init invariant-loop decreases-loop
+loop-holds : tie.Need-loop-i-init invariant-loop decreases-loop
 unfolding changed
 loop-holds c = (search rules, refl, refl)
 
-rounds-at-requires : tie.Need-rounds-at-requires invariant-loop decreases-loop
+rounds-at-requires : tie.Need-rounds_at-rounds-requires invariant-loop decreases-loop
 rounds-at-requires c κs =
-    let turn = c.before in
-    let at-loop = turn.before in
-    let entries = at-loop.before in
-    let room = entries.before.before.requires.room in
-    rw entries.of-table.ensures (fitting (omega (arith, room, at-loop.loop.invariant.1)), turn.loop-test.true)
+    let turn = c in
+    let at-loop = turn in
+    let entries = at-loop in
+    let room = entries.requires.room in
+    rw entries.of_table-entries.ensures (fitting (omega (arith, room, at-loop.loop-i.invariant.1)), turn.loop-i-test.true)
 
-loop-again : tie.Need-loop-preserved invariant-loop decreases-loop
+loop-again : tie.Need-loop-i-preserved invariant-loop decreases-loop
 unfolding changed
 loop-again c =
-    let put = c.before.before in
-    let scaled = put.before in
-    let read = scaled.before.before in
-    let at-loop = read.before.before.before in (
+    let put = c in
+    let scaled = put in
+    let read = scaled in
+    let at-loop = read in (
       search rules,
-      put.put_word.auto.0 ∙ at-loop.loop.invariant.1,
+      put.put_word.auto.list ∙ at-loop.loop-i.invariant.1,
       rw (
         put.put_word.ensures,
         scaled.rescaled.ensures,
-        read.rounds-at.ensures,
-        at-loop.before.of-table.ensures,
-        at-loop.loop.invariant.2,
+        read.rounds_at-rounds.ensures,
+        at-loop.of_table-entries.ensures,
+        at-loop.loop-i.invariant.2,
         add-one,
       ),
     )
 
 returns : tie.Need-returns invariant-loop decreases-loop
 returns c =
-    let at-loop = c.before in
-    let full : at-loop.loop.i ≡ at-loop.before.before.before.args.n = omega arith in
-    rw (← full) at-loop.loop.invariant.2
+    let at-loop = c in
+    let full : at-loop.loop-i.i ≡ at-loop.args.n = omega arith in
+    rw (← full) at-loop.loop-i.invariant.2
 
-pub rescale-spec : {M : Type 1} → statement M
-rescale-spec =
+pub rescale_spec : {M : Type 1} → statement M
+rescale_spec =
     tie.close
     (tie.spec
     invariant-loop

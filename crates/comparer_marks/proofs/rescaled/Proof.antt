@@ -13,14 +13,16 @@ never_stays : (s : Scale) → scaled s all_ones ≡ all_ones
 never_stays Double = refl
 never_stays Halve = refl
 
-returns : tie.Need-returns
-returns c = rw c.if1.true (sym (never_stays c.before.args.scale))
+returns : tie.Need-returns-then-rounds-eq-NEVER
+returns c = rw c.if-rounds-eq-NEVER.true (sym (never_stays c.args.scale))
 
-returns-2 : tie.Need-returns-2
-returns-2 c = rw (c.enum_told.given.1, ne_eqb _ _ c.before.before.if1.false)
+returns-2 : tie.Need-returns-in-Double
+returns-2 c = rw (c.in-Double.is, ne_eqb _ _ c.if-rounds-eq-NEVER.false)
 
-returns-3 : tie.Need-returns-3
-returns-3 c = rw (c.enum-told2.given.1, ne_eqb _ _ c.before.before.if1.false)
+returns-3 : tie.Need-returns-in-Halve
+returns-3 c = rw (c.in-Halve.is, ne_eqb _ _ c.if-rounds-eq-NEVER.false)
 
-pub rescaled-spec : {M : Type 1} → statement M
-rescaled-spec = tie.close (tie.spec returns (λ c. search rules) (λ c. search rules) (λ c. search rules) returns-2 returns-3)
+pub rescaled_spec : {M : Type 1} → statement M
+rescaled_spec =
+    tie.close
+    (tie.spec returns (λ c. search rules) (λ c. search rules) (λ c. search rules) returns-2 returns-3)

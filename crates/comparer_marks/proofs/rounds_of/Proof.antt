@@ -9,38 +9,38 @@ use Rattle.comparer_certify_laws.proofs.StillSearchable.{found-entry}
 use Rattle.comparer_marks.proofs.rounds_of.Statement.{statement}
 use Rattle.comparer_marks.proofs.rounds_of.Tie as tie
 
-find-requires : tie.Need-find-requires
-find-requires c κs = rw c.of-table.ensures c.before.before.requires
+find-requires : tie.Need-find-place-requires
+find-requires c κs = rw c.of_table-entries.ensures c.requires
 
-returns : tie.Need-returns
+returns : tie.Need-returns-in_default
 unfolding rounds_for
 returns c =
-    let searched = c.before.before in
-    rw (← searched.before.of-table.ensures, ← searched.find.ensures, c.enum_told.given.1)
+    let searched = c in
+    rw (← searched.of_table-entries.ensures, ← searched.find-place.ensures, c.in_default.is)
 
 -- the place is that of the position
-found : (c : tie.After-known-told) → let entries = c.before.before.before.before in
-    let a = entries.before.before.args in
-    place_of a.q (positions_in (of_table a.n) a.table.now) ≡ At c.before.place.given.0.0
+found : (c : tie.In-At) → let entries = c in
+    let a = entries.args in
+    place_of a.q (positions_in (of_table a.n) a.table.now) ≡ At c.in-At.i
 found c =
-    let searched = c.before.before.before in
-    rw searched.before.of-table.ensures at (sym searched.find.ensures ∙ c.before.place.given.1)
+    let searched = c in
+    rw searched.of_table-entries.ensures at (sym searched.find-place.ensures ∙ c.in-At.is)
 
-rounds-at-requires : tie.Need-rounds-at-requires
+rounds-at-requires : tie.Need-rounds_at-requires
 rounds-at-requires c κs =
-    let entries = c.before.before.before.before in
-    let start = entries.before.before in
-    rw entries.of-table.ensures
+    let entries = c in
+    let start = entries in
+    rw entries.of_table-entries.ensures
     (start.requires.fitting, found-entry start.args.n start.args.table.now start.args.q (found c))
 
-returns-2 : tie.Need-returns-2
+returns-2 : tie.Need-returns
 unfolding rounds_for
 returns-2 c =
     let told = c.before in
-    rw (c.rounds-at.ensures, told.before.before.before.before.of-table.ensures, found told)
+    rw (c.rounds_at.ensures, told.of_table-entries.ensures, found told)
 
-pub rounds-of-spec : {M : Type 1} → statement M
-rounds-of-spec =
+pub rounds_of_spec : {M : Type 1} → statement M
+rounds_of_spec =
     tie.close
     (tie.spec
     (λ c κs. search rules)

@@ -12,39 +12,37 @@ use Rattle.comparer_rank_laws.specs.Sources.{with_pairs, with_sources_to}
 use Rattle.comparer_state_pairs.proofs.add_sources.Statement.{statement}
 use Rattle.comparer_state_pairs.proofs.add_sources.Tie as tie
 
-abbrev invariant-loop : tie.invariant-loop
+abbrev invariant-loop : tie.invariant-loop-j
 invariant-loop pairs₀ lost e index end j₀ pairs j = (j ≤ end) × (pairs ≡ with_sources_to lost e (model_in index Right) pairs₀ j)
 
-abbrev decreases-loop : tie.decreases-loop
+abbrev decreases-loop : tie.decreases-loop-j
 decreases-loop pairs₀ lost e index end j₀ pairs j = end - j
 
-loop-holds : tie.Need-loop-init invariant-loop decreases-loop
+loop-holds : tie.Need-loop-j-init invariant-loop decreases-loop
 unfolding with_pairs
 loop-holds c = (search rules, refl)
 
-loop-again : tie.Need-loop-preserved invariant-loop decreases-loop
+loop-again : tie.Need-loop-j-preserved invariant-loop decreases-loop
 unfolding with_pairs
 loop-again c =
-    let tested = c.before in
-    let read = tested.before in
-    let rest = read.before.before.loop.invariant.1 in
-    let leads = rw read.edge-at.ensures at tested.leads-into.ensures in (
+    let rest = c.loop-j.invariant.1 in
+    let leads = rw c.edge_at-f.ensures at c.leads_into.ensures in (
       search rules,
       ⊎_elim
-          (λ w. w.3 ∙ w.2.ensures ∙ rw (add-one, ← leads, w.0.taken, rest, read.edge-at.ensures))
-          (λ w. w.1 ∙ rw (add-one, ← leads, w.0.left) rest)
-          c.if1.branch,
+          (λ w. w.pairs-is ∙ w.add.ensures ∙ rw (add-one, ← leads, w.if-leads_into.true, rest, c.edge_at-f.ensures))
+          (λ w. w.pairs-is ∙ rw (add-one, ← leads, w.if-leads_into.false) rest)
+          c.if-leads_into.branch-raw,
     )
 
 returns : tie.Need-returns invariant-loop decreases-loop
 unfolding task_in
 returns c =
     let at = c.before in
-    let full : at.loop.j ≡ at.before.edge_count.result = omega arith in
-    rw (full, at.before.edge_count.ensures) at at.loop.invariant.1
+    let full : at.loop-j.j ≡ at.edge_count-end.result = omega arith in
+    rw (full, at.edge_count-end.ensures) at at.loop-j.invariant.1
 
-pub add-sources-spec : {M : Type 1} → statement M
-add-sources-spec =
+pub add_sources_spec : {M : Type 1} → statement M
+add_sources_spec =
     tie.close
     (tie.spec
     invariant-loop

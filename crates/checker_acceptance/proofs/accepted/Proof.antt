@@ -17,61 +17,61 @@ use borrow.Author.Rules.{rules}
 use Rattle.checker_acceptance.proofs.accepted.Statement.{statement}
 use Rattle.checker_acceptance.proofs.accepted.Tie as tie
 
-abbrev invariant-loop : tie.invariant-loop
+abbrev invariant-loop : tie.invariant-loop-i
 invariant-loop index certificate standing records pairs i₀ i =
     accepted_by (rules_in index) (task_in index) standing certificate
     ≡ all (record_holds (rules_in index) (task_in index) standing certificate) (count i (records.count - i))
 
-abbrev decreases-loop : tie.decreases-loop
+abbrev decreases-loop : tie.decreases-loop-i
 decreases-loop index certificate standing records pairs i₀ i = records.count - i
 
 -- where the start is found
-place : (c : tie.After-find invariant-loop decreases-loop)
-    → let a = c.before.before.before.before.args in
+place : (c : tie.After-find-place invariant-loop decreases-loop)
+    → let a = c.args in
     let l = a.certificate.now in
-    c.find.result ≡ place_of (task_in a.index.now).start (positions_in (records_of a.standing (length l)) l)
+    c.find-place.result ≡ place_of (task_in a.index.now).start (positions_in (records_of a.standing (length l)) l)
 unfolding task_in
-place c = rw (c.before.start.ensures, c.before.before.records-of.ensures) at c.find.ensures
+place c = rw (c.start.ensures, c.records_of-records.ensures) at c.find-place.ensures
 
-find-requires : tie.Need-find-requires invariant-loop decreases-loop
-find-requires c κs = rw c.before.records-of.ensures c.before.before.before.requires.1
+find-requires : tie.Need-find-place-requires invariant-loop decreases-loop
+find-requires c κs = rw c.records_of-records.ensures c.requires.1
 
-returns : tie.Need-returns invariant-loop decreases-loop
-returns c = rw (accepted_by-places, ← place c.before.before, c.enum-told2.given.1)
+returns : tie.Need-returns-in_default invariant-loop decreases-loop
+returns c = rw (accepted_by-places, ← place c.before, c.in_default.is)
 
-loop-holds : tie.Need-loop-init invariant-loop decreases-loop
+loop-holds : tie.Need-loop-i-init invariant-loop decreases-loop
 loop-holds c =
-    let found = c.before.before in
-    rw (accepted_by-places, ← place found, c.enum_told.given.1, sub-zero, found.before.before.records-of.ensures)
+    let found = c.before in
+    rw (accepted_by-places, ← place found, c.in-At.is, sub-zero, found.records_of-records.ensures)
 
-record-holds-requires : tie.Need-record-holds-requires invariant-loop decreases-loop
+record-holds-requires : tie.Need-record_holds-requires invariant-loop decreases-loop
 record-holds-requires c κs =
-    let at-loop = c.before.before.before in
-    let found = at-loop.before.before.before in
-    let listed = found.before.before in
-    let given = listed.before.before.requires in (
+    let at-loop = c in
+    let found = at-loop in
+    let listed = found in
+    let given = listed.requires in (
       record { index = given.0; searchable = given.1; every = refl },
-      rw listed.records-of.ensures at c.before.if1.true,
+      rw listed.records_of-records.ensures at c.loop-i-test.true,
     )
 
-returns-2 : tie.Need-returns-2 invariant-loop decreases-loop
+returns-2 : tie.Need-returns-then-not-record_holds invariant-loop decreases-loop
 returns-2 c =
-    let tested = c.before.before.before in
+    let tested = c in
     sym
-    (tested.before.before.loop.invariant
-    ∙ all_stop _ _ _ tested.if1.true (sym c.before.record-holds.ensures ∙ not-true _ c.if2.true))
+    (tested.loop-i.invariant
+    ∙ all_stop _ _ _ tested.loop-i-test.true (sym c.record_holds.ensures ∙ not-true _ c.if-not-record_holds.true-raw))
 
-loop-again : tie.Need-loop-preserved invariant-loop decreases-loop
+loop-again : tie.Need-loop-i-preserved invariant-loop decreases-loop
 loop-again c =
-    let tested = c.before.before.before in
-    tested.before.before.loop.invariant
-    ∙ all_on _ _ _ tested.if1.true (sym c.before.record-holds.ensures ∙ not-false _ c.if2.false)
+    let tested = c in
+    tested.loop-i.invariant
+    ∙ all_on _ _ _ tested.loop-i-test.true (sym c.record_holds.ensures ∙ not-false _ c.if-not-record_holds.false-raw)
 
-returns-3 : tie.Need-returns-3 invariant-loop decreases-loop
-returns-3 c = sym (c.before.before.loop.invariant ∙ all_end _ _ _ c.if1.false)
+returns-3 : tie.Need-returns invariant-loop decreases-loop
+returns-3 c = sym (c.loop-i.invariant ∙ all_end _ _ _ c.loop-i-test.false)
 
-pub accepted-spec : {M : Type 1} → statement M
-accepted-spec =
+pub accepted_spec : {M : Type 1} → statement M
+accepted_spec =
     tie.close
     (tie.spec
     invariant-loop

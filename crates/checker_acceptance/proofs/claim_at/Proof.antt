@@ -6,23 +6,23 @@ use borrow.Author.Rules.{rules}
 use Rattle.checker_acceptance.proofs.claim_at.Statement.{statement}
 use Rattle.checker_acceptance.proofs.claim_at.Tie as tie
 
-position-at-requires : tie.Need-position-at-requires
-position-at-requires c κs = rw c.records-of.ensures (records_fit Lost _, c.before.before.requires)
+position-at-requires : tie.Need-position_at-position-requires
+position-at-requires c κs = rw c.records_of-records.ensures (records_fit Lost _, c.requires)
 
-rounds-at-requires : tie.Need-rounds-at-requires
+rounds-at-requires : tie.Need-rounds_at-requires
 rounds-at-requires c κs =
-    let listed = c.before.before.before.before in
-    rw listed.records-of.ensures (records_fit Lost _, listed.before.before.requires)
+    let listed = c in
+    rw listed.records_of-records.ensures (records_fit Lost _, listed.requires)
 
 returns : tie.Need-returns
 unfolding loss_at
 returns c =
-    let read = c.before.before.before.before in
-    let listed = read.before in
-    rw (read.position_at.ensures, c.rounds-at.ensures, listed.records-of.ensures)
+    let read = c in
+    let listed = read in
+    rw (read.position_at-position.ensures, c.rounds_at.ensures, listed.records_of-records.ensures)
 
-pub claim-at-spec : {M : Type 1} → statement M
-claim-at-spec =
+pub claim_at_spec : {M : Type 1} → statement M
+claim_at_spec =
     tie.close
     (tie.spec
     (λ c κs. search rules)

@@ -9,27 +9,27 @@ use borrow.Author.Rules.{rules}
 use Rattle.checker_acceptance.proofs.forces.Statement.{statement}
 use Rattle.checker_acceptance.proofs.forces.Tie as tie
 
-returns : tie.Need-returns
+returns : tie.Need-returns-then-not-is_attack
 unfolding forces
-returns c = rw (sym c.before.is_attack_lem.ensures ∙ not-true _ c.if1.true)
+returns c = rw (sym c.is_attack.ensures ∙ not-true _ c.if-not-is_attack.true-raw)
 
 settled-requires : tie.Need-settled-requires
 settled-requires c κs =
-    let listed = c.before in
-    let given = listed.before.before.before.before.before.requires in
-    (rw listed.records-of.ensures given.searchable, (given.index, rw c.of.ensures))
+    let listed = c in
+    let given = listed.requires in
+    (rw listed.records_of-records.ensures given.searchable, (given.index, rw c.of-challenge.ensures))
 
-returns-2 : tie.Need-returns-2
+returns-2 : tie.Need-returns
 returns-2 c =
-    let listed = c.before.before in
-    let named = listed.before in
-    let start = named.before.before.before.before in
-    let exists = sym named.before.is_attack_lem.ensures ∙ not-false _ named.if1.false in
+    let listed = c in
+    let named = listed in
+    let start = named in
+    let exists = sym named.is_attack.ensures ∙ not-false _ named.if-not-is_attack.false-raw in
     rw (loss_won start.requires (loss_of start.args.x) start.args.a, exists)
-    (rw (listed.records-of.ensures, c.before.of.ensures) at c.settled.ensures)
+    (rw (listed.records_of-records.ensures, c.of-challenge.ensures) at c.settled.ensures)
 
-pub forces-spec : {M : Type 1} → statement M
-forces-spec =
+pub forces_spec : {M : Type 1} → statement M
+forces_spec =
     tie.close
     (tie.spec
     (λ c κs. search rules)

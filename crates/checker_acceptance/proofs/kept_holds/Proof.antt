@@ -14,42 +14,42 @@ use Rattle.checker_acceptance.proofs.kept_holds.Statement.{statement}
 use Rattle.checker_acceptance.proofs.kept_holds.Tie as tie
 
 -- the end marks do not lose
-kept-marks : (c : tie.After-first-win)
-    → let a = c.before.before.before.before.before.args in
+kept-marks : (c : tie.After-first_win-win)
+    → let a = c.args in
     lost_at_once (rules_in a.index.now) (task_in a.index.now) a.p ≡ false
 kept-marks c =
-    let marks = c.before.before in
-    sym marks.before.lost_at_once_lem.ensures ∙ marks.if1.false
+    let marks = c in
+    sym marks.lost_at_once.ensures ∙ marks.if-lost_at_once.false
 
 -- what the search for an attack says
-found : (c : tie.After-first-win)
-    → let a = c.before.before.before.before.before.args in
-    first_win (lost_by a.pairs.now Kept a.certificate.now Unlisted) a.index.now a.p ≡ c.first-win.result
-found c = sym (rw c.before.records-of.ensures at c.first-win.ensures)
+found : (c : tie.After-first_win-win)
+    → let a = c.args in
+    first_win (lost_by a.pairs.now Kept a.certificate.now Unlisted) a.index.now a.p ≡ c.first_win-win.result
+found c = sym (rw c.records_of-records.ensures at c.first_win-win.ensures)
 
-returns : tie.Need-returns
+returns : tie.Need-returns-then-lost_at_once
 unfolding holds
-returns c = rw (sym c.before.lost_at_once_lem.ensures ∙ c.if1.true)
+returns c = rw (sym c.lost_at_once.ensures ∙ c.if-lost_at_once.true)
 
-first-win-requires : tie.Need-first-win-requires
+first-win-requires : tie.Need-first_win-win-requires
 first-win-requires c κs =
-    let given = c.before.before.before.before.requires in
-    (rw c.records-of.ensures given.searchable, given.index)
+    let given = c.requires in
+    (rw c.records_of-records.ensures given.searchable, given.index)
 
-returns-2 : tie.Need-returns-2
+returns-2 : tie.Need-returns-in_default
 returns-2 c =
-    let searched = c.before.before in
-    let start = searched.before.before.before.before.before in
-    sym (kept_unwon start.requires start.args.p (kept-marks searched) (found searched ∙ c.enum-told2.given.1))
+    let searched = c.before in
+    let start = searched in
+    sym (kept_unwon start.requires start.args.p (kept-marks searched) (found searched ∙ c.in_default.is))
 
-returns-3 : tie.Need-returns-3
+returns-3 : tie.Need-returns
 returns-3 c =
-    let searched = c.before.before in
-    let start = searched.before.before.before.before.before in
-    sym (kept-won start.requires start.args.p (kept-marks searched) (found searched ∙ c.enum_told.given.1))
+    let searched = c.before in
+    let start = searched in
+    sym (kept-won start.requires start.args.p (kept-marks searched) (found searched ∙ c.in-By.is))
 
-pub kept-holds-spec : {M : Type 1} → statement M
-kept-holds-spec =
+pub kept_holds_spec : {M : Type 1} → statement M
+kept_holds_spec =
     tie.close
     (tie.spec
     (λ c κs. search rules)

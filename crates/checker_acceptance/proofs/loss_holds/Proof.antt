@@ -15,41 +15,41 @@ six : (c : tie.Start) → length c.args.x.position.partners ≡ 6
 six c = search rules
 
 -- the attack that is named decides
-by_attack : (c : tie.After-attack-named)
-    → let a = c.before.before.before.before.args in
+by_attack : (c : tie.After-attack_named-named)
+    → let a = c.args in
     let b = a.index.now in
     let l = losses_in a.certificate.now in
     loss_holds (rules_in b) (task_in b) l (loss_of a.x)
-    ≡ forces (rules_in b) (task_in b) l (loss_of a.x) (named_attack c.attack-named.result)
+    ≡ forces (rules_in b) (task_in b) l (loss_of a.x) (named_attack c.attack_named-named.result)
 unfolding attack_in
 by_attack c =
     let start = c.before.before.before.before in
     let b = start.args.index.now in
     let l = losses_in start.args.certificate.now in
-    loss_by_attack (rules_in b) (task_in b) l (loss_of start.args.x) c.before.if1.false
-    ∙ rw (six start, ← c.attack-named.ensures)
+    loss_by_attack (rules_in b) (task_in b) l (loss_of start.args.x) c.if-x-eq0.false
+    ∙ rw (six start, ← c.attack_named-named.ensures)
 
-returns : tie.Need-returns
+returns : tie.Need-returns-then-x-eq0
 returns c =
-    let a = c.before.before.before.before.args in
+    let a = c.args in
     let b = a.index.now in
-    rw (loss_at_once (rules_in b) (task_in b) (losses_in a.certificate.now) (loss_of a.x) c.before.if1.true)
-    c.lost-already.ensures
+    rw (loss_at_once (rules_in b) (task_in b) (losses_in a.certificate.now) (loss_of a.x) c.if-x-eq0.true)
+    c.lost_already.ensures
 
-returns-2 : tie.Need-returns-2
+returns-2 : tie.Need-returns-in_default
 unfolding forces
 returns-2 c =
-    let named = c.before.before in
-    sym (by_attack named ∙ rw c.enum_told.given.1)
+    let named = c.before in
+    sym (by_attack named ∙ rw c.in_default.is)
 
-returns-3 : tie.Need-returns-3
+returns-3 : tie.Need-returns
 returns-3 c =
-    let told = c.before.before in
+    let told = c in
     let named = told.before.before in
-    rw (by_attack named, told.named.given.1) c.forces.ensures
+    rw (by_attack named, told.in-By.is) c.forces.ensures
 
-pub loss-holds-spec : {M : Type 1} → statement M
-loss-holds-spec =
+pub loss_holds_spec : {M : Type 1} → statement M
+loss_holds_spec =
     tie.close
     (tie.spec
     (λ c κs. search rules)

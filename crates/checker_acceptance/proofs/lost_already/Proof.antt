@@ -9,37 +9,39 @@ use Rattle.checker_acceptance.proofs.lost_already.Statement.{statement}
 use Rattle.checker_acceptance.proofs.lost_already.Tie as tie
 
 -- the flag after the second field
-fields : (c : tie.Joined2)
-    → let x = c.before.before.before.before.before.args.x in
-    c.if2.if3 ≡ (eqb x.side 0 && eqb x.edge 0)
+fields : (c : tie.Joined-x-eq0)
+    → let x = c.args.x in
+    c.if-x-eq0.t-7 ≡ (eqb x.side 0 && eqb x.edge 0)
 fields c =
     ⊎_elim
-    (λ w. rw (eq-eqb _ _ w.0.taken) w.2)
-    (λ w. let other = ne_eqb _ _ w.0.left in rw other (w.1 ∙ other))
-    c.if2.branch
+    (λ w. rw (eq-eqb _ _ w.if-x-eq0.true) w.t-7-is)
+    (λ w. let other = ne_eqb _ _ w.if-x-eq0.false in rw other (w.t-7-is ∙ other))
+    c.if-x-eq0.branch-raw
 
-returns : tie.Need-returns
-returns c = rw (sym c.before.lost_at_once_lem.ensures ∙ not-true _ c.if1.true)
+returns : tie.Need-returns-then-not-lost_at_once
+returns c = rw (sym c.lost_at_once.ensures ∙ not-true _ c.if-not-lost_at_once.true-raw)
 
-returns-2 : tie.Need-returns-2
+returns-2 : tie.Need-returns-then-x-eq0-2
 returns-2 c =
     let flag = c.before.before in
-    let marks = flag.before.before in
+    let marks = flag in
     rw (
-      sym marks.before.lost_at_once_lem.ensures ∙ not-false _ marks.if1.false,
+      sym marks.lost_at_once.ensures ∙ not-false _ marks.if-not-lost_at_once.false-raw,
       ← fields flag,
-      c.before.if3.true,
+      c.if-x-eq0-2.true-raw,
     )
 
-returns-3 : tie.Need-returns-3
+returns-3 : tie.Need-returns-else-x-eq0-2
 returns-3 c =
     let flag = c.before in
-    let marks = flag.before.before in
+    let marks = flag in
     rw (
-      sym marks.before.lost_at_once_lem.ensures ∙ not-false _ marks.if1.false,
+      sym marks.lost_at_once.ensures ∙ not-false _ marks.if-not-lost_at_once.false-raw,
       ← fields flag,
-      c.if3.false,
+      c.if-x-eq0-2.false-raw,
     )
 
-pub lost-already-spec : {M : Type 1} → statement M
-lost-already-spec = tie.close (tie.spec (λ c κs. search rules) returns returns-2 returns-3)
+pub lost_already_spec : {M : Type 1} → statement M
+lost_already_spec =
+    tie.close
+    (tie.spec (λ c κs. search rules) returns returns-2 returns-3)

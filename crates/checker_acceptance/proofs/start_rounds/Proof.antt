@@ -14,47 +14,47 @@ use Rattle.checker_acceptance.proofs.start_rounds.Statement.{statement}
 use Rattle.checker_acceptance.proofs.start_rounds.Tie as tie
 
 -- the list is one of losses
-standing : (c : tie.After-start) → c.before.before.before.before.before.args.standing ≡ Lost
-standing c = c.before.before.enum_told.given.1
+standing : (c : tie.After-start) → c.args.standing ≡ Lost
+standing c = c.in-Lost.is
 
 listed : (c : tie.After-start)
-    → let l = c.before.before.before.before.before.args.certificate.now in
+    → let l = c.args.certificate.now in
     Searchable (records_of Lost (length l)) l
-listed c = rw (standing c) at c.before.before.before.before.before.requires
+listed c = rw (standing c) at c.requires
 
 -- where the start is found
-place : (c : tie.After-find)
-    → let listed = c.before.before in
-    let a = listed.before.before.before.before.args in
-    c.find.result ≡ place_of (task_in a.index.now).start (lost_in a.certificate.now)
+place : (c : tie.After-find-place)
+    → let listed = c in
+    let a = listed.args in
+    c.find-place.result ≡ place_of (task_in a.index.now).start (lost_in a.certificate.now)
 unfolding task_in
-place c = rw (c.before.start.ensures, c.before.before.records-of.ensures) at c.find.ensures
+place c = rw (c.start.ensures, c.records_of-records.ensures) at c.find-place.ensures
 
-find-requires : tie.Need-find-requires
-find-requires c κs = rw c.before.records-of.ensures (listed c)
+find-requires : tie.Need-find-place-requires
+find-requires c κs = rw c.records_of-records.ensures (listed c)
 
-returns-2 : tie.Need-returns-2
+returns-2 : tie.Need-returns-in_default-place
 returns-2 c =
-    let found = c.before.before in
-    rw (standing found.before, start-rounds, ← place found, c.enum-told3.given.1)
+    let found = c.before in
+    rw (standing found.before, start-rounds, ← place found, c.in_default-place.is)
 
-rounds-at-requires : tie.Need-rounds-at-requires
+rounds-at-requires : tie.Need-rounds_at-requires
 rounds-at-requires c κs =
-    let found = c.before.before.before in
+    let found = c.before in
     let start = found.before in
-    let at = sym (place found) ∙ c.before.place.given.1 in
-    rw start.before.records-of.ensures
+    let at = sym (place found) ∙ c.in-At.is in
+    rw start.records_of-records.ensures
     ((listed start).fitting, rw positions-length at (place-within _ _ _ at))
 
-returns-3 : tie.Need-returns-3
+returns-3 : tie.Need-returns
 returns-3 c =
-    let told = c.before in
-    let found = told.before.before.before in
-    rw (standing found.before, start-rounds, ← place found, told.before.place.given.1)
-    (rw found.before.before.records-of.ensures at c.rounds-at.ensures)
+    let told = c in
+    let found = told.before.before in
+    rw (standing found.before, start-rounds, ← place found, told.in-At.is)
+    (rw found.records_of-records.ensures at c.rounds_at.ensures)
 
-pub start-rounds-spec : {M : Type 1} → statement M
-start-rounds-spec =
+pub start_rounds_spec : {M : Type 1} → statement M
+start_rounds_spec =
     tie.close
     (tie.spec
     (λ c. search rules)

@@ -11,38 +11,38 @@ use Rattle.comparer_leads.proofs.lead.Statement.{statement}
 use Rattle.comparer_leads.proofs.lead.Tie as tie
 
 -- the answer is the attack of the entry's position
-won : (c : tie.After-attack-of) → let placed = c.before.before in
-    let start = placed.before.before.before.before in
+won : (c : tie.After-attack_of-attack) → let placed = c in
+    let start = placed in
     let a = start.args in
     let b = a.index.now in
-    c.attack-of.result
+    c.attack_of-attack.result
     ≡ win_of (attack_by (rules_in b) (task_in b) a.n a.table.now a.k (position_at (of_table a.n) a.table.now a.i))
 won c =
-    let placed = c.before.before in
-    c.attack-of.ensures ∙ rw (placed.position_at.ensures, placed.before.of-table.ensures)
+    let placed = c in
+    c.attack_of-attack.ensures ∙ rw (placed.position_at-p.ensures, placed.of_table.ensures)
 
-position-at-requires : tie.Need-position-at-requires
+position-at-requires : tie.Need-position_at-p-requires
 position-at-requires c κs =
-    let start = c.before.before.before in
-    rw c.of-table.ensures (start.requires.0.fitting, start.requires.1.2)
+    let start = c in
+    rw c.of_table.ensures (start.requires.0.fitting, start.requires.1.2)
 
-returns : tie.Need-returns
+returns : tie.Need-returns-in_default
 returns c =
-    let searched = c.before.before in
-    sym (led_nowhere _ _ _ _ _ _ (winner_none _ (sym (won searched) ∙ c.enum_told.given.1)))
+    let searched = c.before in
+    sym (led_nowhere _ _ _ _ _ _ (winner_none _ (sym (won searched) ∙ c.in_default.is)))
 
-returns-2 : tie.Need-returns-2
+returns-2 : tie.Need-returns
 returns-2 c =
-    let marked = c.before.before in
-    let found = marked.before.before.before in
-    let searched = found.before.before in
-    let placed = searched.before.before in
-    marked.mark-replies.ensures
-    ∙ rw (placed.position_at.ensures, placed.before.of-table.ensures)
-    (sym (led_by _ _ _ _ _ _ (winner-some _ (sym (won searched) ∙ found.attack.given.1))))
+    let marked = c in
+    let found = marked in
+    let searched = found.before.before.before.before.before in
+    let placed = searched in
+    marked.mark_replies.ensures
+    ∙ rw (placed.position_at-p.ensures, placed.of_table.ensures)
+    (sym (led_by _ _ _ _ _ _ (winner-some _ (sym (won searched) ∙ found.in-By.is))))
 
-pub lead-spec : {M : Type 1} → statement M
-lead-spec =
+pub lead_spec : {M : Type 1} → statement M
+lead_spec =
     tie.close
     (tie.spec
     (λ c κs. search rules)

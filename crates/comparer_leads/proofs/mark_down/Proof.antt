@@ -10,46 +10,46 @@ use Rattle.comparer_certify_laws.proofs.StillSearchable.{Kept, kept_refl, kept_t
 use Rattle.comparer_leads.proofs.mark_down.Statement.{statement}
 use Rattle.comparer_leads.proofs.mark_down.Tie as tie
 
-abbrev invariant-loop : tie.invariant-loop
+abbrev invariant-loop : tie.invariant-loop-k
 invariant-loop table₀ n index rounds k₀ table k =
     (k ≤ rounds)
     × Kept n table₀ table
     × (marking (rules_in index) (task_in index) n k table ≡ marking (rules_in index) (task_in index) n rounds table₀)
 
-abbrev decreases-loop : tie.decreases-loop
+abbrev decreases-loop : tie.decreases-loop-k
 decreases-loop table₀ n index rounds k₀ table k = k
 
-loop-holds : tie.Need-loop-init invariant-loop decreases-loop
+loop-holds : tie.Need-loop-k-init invariant-loop decreases-loop
 loop-holds c = (search rules, kept_refl _ _, refl)
 
 pass-requires : tie.Need-pass-requires invariant-loop decreases-loop
 pass-requires c κs =
-    let at-loop = c.before.before in
-    let start = at-loop.before.before in
-    (searchable-kept start.requires.0 at-loop.loop.invariant.1, (start.requires.1.0, omega arith))
+    let at-loop = c in
+    let start = at-loop in
+    (searchable-kept start.requires.0 at-loop.loop-k.invariant.1, (start.requires.1.0, omega arith))
 
-loop-again : tie.Need-loop-preserved invariant-loop decreases-loop
+loop-again : tie.Need-loop-k-preserved invariant-loop decreases-loop
 loop-again c =
-    let done = c.before.before in
-    let at-loop = done.before.before.before in
-    let (few, kept, is) = at-loop.loop.invariant in (
+    let done = c in
+    let at-loop = done in
+    let (few, kept, is) = at-loop.loop-k.invariant in (
       omega arith,
-      kept_trans kept (rw done.pass.ensures (kept-passed _ _ _ _ _ at-loop.loop.table)),
-      rw done.pass.ensures (sym (marking_step _ _ _ _ at-loop.loop.table (omega arith)) ∙ is),
+      kept_trans kept (rw done.pass.ensures (kept-passed _ _ _ _ _ at-loop.loop-k.table)),
+      rw done.pass.ensures (sym (marking_step _ _ _ _ at-loop.loop-k.table (omega arith)) ∙ is),
     )
 
-same_length : tie.Need-same-length invariant-loop decreases-loop
-same_length c = c.before.loop.invariant.1.size
+same_length : tie.Need-shape_of-table invariant-loop decreases-loop
+same_length c = c.loop-k.invariant.1.size
 
 returns : tie.Need-returns invariant-loop decreases-loop
 unfolding marking
 returns c =
-    let at-loop = c.before in
-    let down : at-loop.loop.k ≡ 0 = omega arith in
-    rw down at at-loop.loop.invariant.2
+    let at-loop = c in
+    let down : at-loop.loop-k.k ≡ 0 = omega arith in
+    rw down at at-loop.loop-k.invariant.2
 
-pub mark-down-spec : {M : Type 1} → statement M
-mark-down-spec =
+pub mark_down_spec : {M : Type 1} → statement M
+mark_down_spec =
     tie.close
     (tie.spec
     invariant-loop

@@ -9,35 +9,35 @@ use Rattle.comparer_leads.proofs.prepare.Statement.{statement}
 use Rattle.comparer_leads.proofs.prepare.Tie as tie
 
 -- with rounds doubled
-rescaled : (c : tie.After-rescale) → let start = c.before.before.before in
-    Searchable (of_table start.args.n) c.rescale.new.0
+rescaled : (c : tie.After-rescale) → let start = c in
+    Searchable (of_table start.args.n) c.rescale.new.table
 rescaled c =
-    let start = c.before.before.before in
+    let start = c in
     rw c.rescale.ensures
     (searchable-kept start.requires.0 (kept-changed doubled start.args.n start.args.n start.args.table.now))
 
 mark-requires : tie.Need-mark-requires
 mark-requires c κs = rescaled c.before.before.before.before
 
-mark-down-requires : tie.Need-mark-down-requires
+mark-down-requires : tie.Need-mark_down-requires
 mark-down-requires c κs =
-    let marked = c.before.before.before in
-    let scaled = marked.before.before.before.before.before in
-    let start = scaled.before.before.before in (
-      rw marked.mark.ensures (searchable-kept (rescaled scaled) (kept-marked start.args.n _ scaled.rescale.new.0)),
+    let marked = c in
+    let scaled = marked.before.before.before.before.before.before.before.before in
+    let start = scaled in (
+      rw marked.mark.ensures (searchable-kept (rescaled scaled) (kept-marked start.args.n _ scaled.rescale.new.table)),
       start.requires.1,
     )
 
 returns : tie.Need-returns
 unfolding prepared task_in
 returns c =
-    let down = c.before.before in
-    let marked = down.before.before.before.before in
-    let begun = marked.before in
-    let scaled = begun.before.before.before.before in
-    rw (down.mark-down.ensures, marked.mark.ensures, begun.start.ensures, scaled.rescale.ensures)
+    let down = c in
+    let marked = down in
+    let begun = marked in
+    let scaled = begun in
+    rw (down.mark_down.ensures, marked.mark.ensures, begun.start.ensures, scaled.rescale.ensures)
 
-pub prepare-spec : {M : Type 1} → statement M
-prepare-spec =
+pub prepare_spec : {M : Type 1} → statement M
+prepare_spec =
     tie.close
     (tie.spec (λ c κs. search rules) (λ c κs. search rules) mark-requires mark-down-requires (λ c. search rules) returns)

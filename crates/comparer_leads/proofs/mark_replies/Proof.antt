@@ -75,7 +75,7 @@ add-from c =
     search (rules, exists, few)
 
 loop-less : tie.Need-loop-edge-smaller invariant-loop decreases-loop
-loop-less c = let marked = c in rw (next marked.before.before.before).first (omega arith)
+loop-less c = let marked = c in rw (next marked.before.before.before.before.before).first (omega arith)
 
 loop-again : tie.Need-loop-edge-preserved invariant-loop decreases-loop
 unfolding marked_all

@@ -12,82 +12,82 @@ use Rattle.comparer_rank.proofs.mark.Statement.{statement}
 use Rattle.comparer_rank.proofs.mark.Tie as tie
 
 -- entry i is one of the records
-within : (c : tie.After-of-table)
-    → let a = c.before.before.args in
-    let records = c.of-table.result in
+within : (c : tie.After-of_table-records)
+    → let a = c.args in
+    let records = c.of_table-records.result in
     Fitting records a.table.now × (a.i < records.count)
 within c =
-    let (searchable, inside) = c.before.before.requires.0 in
-    rw c.of-table.ensures (searchable.fitting, inside)
+    let (searchable, inside) = c.requires.0 in
+    rw c.of_table-records.ensures (searchable.fitting, inside)
 
 -- the position that is looked at is that of entry i
-placed : (c : tie.After-position-at)
-    → let a = c.before.before.before.before.args in
-    c.position_at.result ≡ position_at (of_table a.n) a.table.now a.i
-placed c = rw c.before.before.of-table.ensures at c.position_at.ensures
+placed : (c : tie.After-position_at-p)
+    → let a = c.args in
+    c.position_at-p.result ≡ position_at (of_table a.n) a.table.now a.i
+placed c = rw c.of_table-records.ensures at c.position_at-p.ensures
 
 -- its states are worth a look
-seen : (c : tie.Else1)
-    → let looked = c.before.before in
-    let p = looked.position_at.result in
-    has_pair looked.before.before.before.before.args.worth.now p.left p.right ≡ true
-seen c = sym c.before.has.ensures ∙ not-false _ c.if1.false
+seen : (c : tie.Else-not-has)
+    → let looked = c in
+    let p = looked.position_at-p.result in
+    has_pair looked.args.worth.now p.left p.right ≡ true
+seen c = sym c.has.ensures ∙ not-false _ c.if-not-has.false-raw
 
 -- its rounds are those of entry i
-counted : (c : tie.After-rounds-at)
-    → let looked = c.before.before.before.before in
-    let a = looked.before.before.before.before.args in
-    c.rounds-at.result ≡ rounds_at (of_table a.n) a.table.now a.i
+counted : (c : tie.After-rounds_at)
+    → let looked = c in
+    let a = looked.args in
+    c.rounds_at.result ≡ rounds_at (of_table a.n) a.table.now a.i
 counted c =
-    let looked = c.before.before.before.before in
-    rw looked.before.before.of-table.ensures at c.rounds-at.ensures
+    let looked = c in
+    rw looked.of_table-records.ensures at c.rounds_at.ensures
 
 -- a search decides for one without rounds
-searched : (c : tie.After-first-win)
-    → let viewed = c.before.before.before.before.before in
-    let looked = viewed.before.before in
-    let a = looked.before.before.before.before.args in
-    gains a.index.now a.table.now a.n a.losing.now a.worth.now a.k a.i ≡ is_win c.first-win.result
+searched : (c : tie.After-first_win-win)
+    → let viewed = c in
+    let looked = viewed in
+    let a = looked.args in
+    gains a.index.now a.table.now a.n a.losing.now a.worth.now a.k a.i ≡ is_win c.first_win-win.result
 searched c =
-    let never = c.before.before in
+    let never = c in
     let viewed = never.before.before.before in
     let looked = viewed.before.before in
-    gains-found _ _ _ _ _ _ _ (placed looked) (seen viewed) (sym (counted never.before) ∙ never.if2.false)
-    (rw looked.before.before.of-table.ensures at c.first-win.ensures)
+    gains-found _ _ _ _ _ _ _ (placed looked) (seen viewed) (sym (counted never.before.before) ∙ never.if-rounds_at.false)
+    (rw looked.of_table-records.ensures at c.first_win-win.ensures)
 
-position-at-requires : tie.Need-position-at-requires
-position-at-requires c κs = within c.before
+position-at-requires : tie.Need-position_at-p-requires
+position-at-requires c κs = within c
 
-returns : tie.Need-returns
+returns : tie.Need-returns-then-not-has
 returns c = (
-  sym (gains_unseen _ _ _ _ _ _ _ (placed c.before.before) (sym c.before.has.ensures ∙ not-true _ c.if1.true)),
+  sym (gains_unseen _ _ _ _ _ _ _ (placed c.before.before) (sym c.has.ensures ∙ not-true _ c.if-not-has.true-raw)),
   refl,
 )
 
-rounds-at-requires : tie.Need-rounds-at-requires
-rounds-at-requires c κs = within c.before.before.before.before.before
+rounds-at-requires : tie.Need-rounds_at-requires
+rounds-at-requires c κs = within c.before.before.before
 
-returns-2 : tie.Need-returns-2
+returns-2 : tie.Need-returns-then-rounds_at
 returns-2 c =
-    let viewed = c.before.before.before in
+    let viewed = c.before.before in
     let here = placed viewed.before.before in
-    (sym (gains-nothing _ _ _ _ _ _ _ here (seen viewed) (λ e. c.if2.true (counted c.before ∙ e))), refl)
+    (sym (gains-nothing _ _ _ _ _ _ _ here (seen viewed) (λ e. c.if-rounds_at.true (counted c.before ∙ e))), refl)
 
-first-win-requires : tie.Need-first-win-requires
+first-win-requires : tie.Need-first_win-win-requires
 first-win-requires c κs =
-    let viewed = c.before.before.before.before in
-    let listed = viewed.before.before.before.before in
-    let pre = listed.before.before.requires in
-    rw listed.of-table.ensures (pre.0.0, pre.1)
+    let viewed = c in
+    let listed = viewed in
+    let pre = listed.requires in
+    rw listed.of_table-records.ensures (pre.0.0, pre.1)
 
-returns-3 : tie.Need-returns-3
-returns-3 c = (sym (searched c.before.before ∙ ap is_win c.enum-told2.given.1), refl)
+returns-3 : tie.Need-returns-in_default
+returns-3 c = (sym (searched c.before ∙ ap is_win c.in_default.is), refl)
 
-returns-4 : tie.Need-returns-4
+returns-4 : tie.Need-returns
 returns-4 c =
-    let put = c.before.before in
-    let told = put.before.before in
-    (sym (searched told.before.before ∙ ap is_win told.enum_told.given.1), put.put_word.ensures)
+    let put = c in
+    let told = put in
+    (sym (searched told.before.before.before.before.before ∙ ap is_win told.in-By.is), put.put_word.ensures)
 
 pub mark_spec : {M : Type 1} → statement M
 mark_spec =

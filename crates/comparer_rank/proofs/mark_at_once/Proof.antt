@@ -6,25 +6,25 @@ use Rattle.comparer_rank.proofs.mark_at_once.Statement.{statement}
 use Rattle.comparer_rank.proofs.mark_at_once.Tie as tie
 
 -- what is asked is whether entry i is lost at once
-asked : (c : tie.After-lost-at-once)
-    → let a = c.before.before.before.before.before.args in
-    c.lost_at_once_lem.result ≡ loses a.index.now a.n a.table.now a.i
-asked c = rw (c.before.position_at.ensures, c.before.before.of-table.ensures) at c.lost_at_once_lem.ensures
+asked : (c : tie.After-lost_at_once)
+    → let a = c.args in
+    c.lost_at_once.result ≡ loses a.index.now a.n a.table.now a.i
+asked c = rw (c.position_at-p.ensures, c.of_table.ensures) at c.lost_at_once.ensures
 
-position-at-requires : tie.Need-position-at-requires
-position-at-requires c κs = rw c.of-table.ensures c.before.before.before.requires
+position-at-requires : tie.Need-position_at-p-requires
+position-at-requires c κs = rw c.of_table.ensures c.requires
 
-returns : tie.Need-returns
+returns : tie.Need-returns-then-lost_at_once
 returns c =
-    let put = c.before.before in
-    let tested = put.before.before in
-    rw (← asked tested.before, tested.if1.true) put.put_word.ensures
+    let put = c in
+    let tested = put in
+    rw (← asked tested.before.before.before.before.before, tested.if-lost_at_once.true) put.put_word.ensures
 
-returns-2 : tie.Need-returns-2
-returns-2 c = rw (← asked c.before, c.if1.false)
+returns-2 : tie.Need-returns-else-lost_at_once
+returns-2 c = rw (← asked c.before, c.if-lost_at_once.false)
 
-pub mark-at-once-spec : {M : Type 1} → statement M
-mark-at-once-spec =
+pub mark_at_once_spec : {M : Type 1} → statement M
+mark_at_once_spec =
     tie.close
     (tie.spec
     (λ c κs. search rules)

@@ -16,64 +16,64 @@ use Rattle.comparer_rank.proofs.AnyPassed.{any_next, any-end}
 use Rattle.comparer_rank.proofs.pass.Statement.{statement}
 use Rattle.comparer_rank.proofs.pass.Tie as tie
 
-abbrev invariant-loop : tie.invariant-loop
+abbrev invariant-loop : tie.invariant-loop-i
 invariant-loop table₀ n index losing worth k marked₀ i₀ table marked i =
     InPass index k n table₀ i table
     × (ranks_in index k ≡ marked || any (ranked (rules_in index) (task_in index) k) (drop i (reached_in index)))
 
-abbrev decreases-loop : tie.decreases-loop
+abbrev decreases-loop : tie.decreases-loop-i
 decreases-loop table₀ n index losing worth k marked₀ i₀ table marked i = n - i
 
 -- an entry is marked if one was before or this one is
-now-marked : (c : tie.Joined1 invariant-loop decreases-loop)
-    → let marked = c.before.before.before in
-    c.if1.marked ≡ marked.before.before.before.loop.marked || marked.mark.result
+now-marked : (c : tie.Joined-mark invariant-loop decreases-loop)
+    → let marked = c in
+    c.if-mark.marked ≡ marked.loop-i.marked || marked.mark.result
 now-marked c =
-    let marked = c.before.before.before in
-    let earlier = marked.before.before.before.loop.marked in
-    ⊎_elim (λ w. w.1 ∙ rw w.0.taken (sym (or-true earlier))) (λ w. w.1 ∙ rw w.0.left (sym (or-false earlier)))
-    c.if1.branch
+    let marked = c in
+    let earlier = marked.loop-i.marked in
+    ⊎_elim (λ w. w.marked-is ∙ rw w.if-mark.true (sym (or-true earlier))) (λ w. w.marked-is ∙ rw w.if-mark.false (sym (or-false earlier)))
+    c.if-mark.branch-raw
 
-loop-holds : tie.Need-loop-init invariant-loop decreases-loop
-loop-holds c = let (index, ready) = c.before.requires in (part_start index _ _ ready.begins, refl)
+loop-holds : tie.Need-loop-i-init invariant-loop decreases-loop
+loop-holds c = let (index, ready) = c.requires in (part_start index _ _ ready.begins, refl)
 
 mark-requires : tie.Need-mark-requires invariant-loop decreases-loop
 mark-requires c κs =
-    let here = c.before in
-    let at = here.before in
-    let (index, ready) = at.before.before.requires in
-    ((part_searchable index _ _ ready.begins at.loop.invariant.0, here.loop-test.true), index)
+    let here = c in
+    let at = here in
+    let (index, ready) = at.requires in
+    ((part_searchable index _ _ ready.begins at.loop-i.invariant.0, here.loop-i-test.true), index)
 
-loop-again : tie.Need-loop-preserved invariant-loop decreases-loop
+loop-again : tie.Need-loop-i-preserved invariant-loop decreases-loop
 loop-again c =
-    let marked = c.before.before.before in
-    let here = marked.before.before in
+    let marked = c in
+    let here = marked in
     let at = here.before in
-    let (index, ready) = at.before.before.requires in
-    let (part, seen) = at.loop.invariant in
-    let inside = here.loop-test.true in
+    let (index, ready) = at.requires in
+    let (part, seen) = at.loop-i.invariant in
+    let inside = here.loop-i-test.true in
     let z = (task_in at.before.before.args.index.now).start in
     let gained = marked.mark.ensures.0 in
     let found = gained ∙ pass_gains index ready part z inside in (
       rw (marked.mark.ensures.1, gained) (pass_next index ready part z inside),
-      any_next _ _ at.loop.i z at.loop.marked c.if1.marked (rw ready.begins.counted at inside)
+      any_next _ _ at.loop-i.i z at.loop-i.marked c.if-mark.marked (rw ready.begins.counted at inside)
           (rw (← found) (now-marked c))
           seen,
     )
 
-same_length : tie.Need-same-length invariant-loop decreases-loop
+same_length : tie.Need-shape_of-table invariant-loop decreases-loop
 same_length c =
-    let at = c.before in
-    let (index, ready) = at.before.before.requires in
-    part_length index _ _ ready.begins at.loop.invariant.0
+    let at = c in
+    let (index, ready) = at.requires in
+    part_length index _ _ ready.begins at.loop-i.invariant.0
 
 returns : tie.Need-returns invariant-loop decreases-loop
 returns c =
-    let at = c.before in
-    let (index, ready) = at.before.before.requires in
-    let (part, seen) = at.loop.invariant in (
-      any-end _ _ at.loop.i at.loop.marked (omega (arith, ready.begins.counted)) seen,
-      part_end index _ _ ready.begins part c.loop-test.false,
+    let at = c in
+    let (index, ready) = at.requires in
+    let (part, seen) = at.loop-i.invariant in (
+      any-end _ _ at.loop-i.i at.loop-i.marked (omega (arith, ready.begins.counted)) seen,
+      part_end index _ _ ready.begins part c.loop-i-test.false,
     )
 
 pub pass_spec : {M : Type 1} → statement M

@@ -18,75 +18,75 @@ use Rattle.comparer_rank.proofs.PassResults.{pass_rest, pass_begins, pass_covers
 use Rattle.comparer_rank.proofs.rank.Statement.{statement}
 use Rattle.comparer_rank.proofs.rank.Tie as tie
 
-abbrev invariant-loop : tie.invariant-loop
+abbrev invariant-loop : tie.invariant-loop-next
 invariant-loop table₀ n index losing₀ worth₀ k₀ table losing worth k =
     (k ≤ n + 1)
     × (length table ≡ length table₀)
     × (drop (n * entry_width) table ≡ drop (n * entry_width) table₀)
     × Ready index k n table losing worth
 
-abbrev decreases-loop : tie.decreases-loop
+abbrev decreases-loop : tie.decreases-loop-next
 decreases-loop table₀ n index losing₀ worth₀ k₀ table losing worth k = n + 1 - k
 
 -- ── Places ──
 
-abbrev zeroth : tie.At-loop invariant-loop decreases-loop → tie.After-pass-zero invariant-loop decreases-loop
-zeroth c = c.before.before.before.before.before
+abbrev zeroth : tie.At-loop-next invariant-loop decreases-loop → tie.After-pass_zero invariant-loop decreases-loop
+zeroth c = c.before.before.before.before
 
-abbrev start : tie.After-pass-zero invariant-loop decreases-loop → tie.Start invariant-loop decreases-loop
+abbrev start : tie.After-pass_zero invariant-loop decreases-loop → tie.Start invariant-loop decreases-loop
 start c = c.before.before.before
 
-abbrev at-loop : tie.After-pass invariant-loop decreases-loop → tie.At-loop invariant-loop decreases-loop
+abbrev at-loop : tie.After-pass invariant-loop decreases-loop → tie.At-loop-next invariant-loop decreases-loop
 at-loop c = c.before.before.before.before
 
 -- ── What is known there ──
 
 -- the levels after pass 0
-zero-begins : (c : tie.After-pass-zero invariant-loop decreases-loop)
+zero-begins : (c : tie.After-pass_zero invariant-loop decreases-loop)
     → let a = (start c).args in
-    Begins a.index.now (level (rules_in a.index.now) (task_in a.index.now) 0) a.n c.pass-zero.new.0
-zero-begins c = let (index, begins) = (start c).requires in pass_begins index 0 begins c.pass-zero.ensures
+    Begins a.index.now (level (rules_in a.index.now) (task_in a.index.now) 0) a.n c.pass_zero.new.table
+zero-begins c = let (index, begins) = (start c).requires in pass_begins index 0 begins c.pass_zero.ensures
 
 -- the levels after a later pass
 pass-leaves : (c : tie.After-pass invariant-loop decreases-loop)
     → let at = at-loop c in
     let a = (start (zeroth at)).args in
-    Begins a.index.now (level (rules_in a.index.now) (task_in a.index.now) at.loop.k) a.n c.pass.new.0
+    Begins a.index.now (level (rules_in a.index.now) (task_in a.index.now) at.loop-next.k) a.n c.pass.new.table
 pass-leaves c =
     let at = at-loop c in
-    pass_begins (start (zeroth at)).pre.0 at.loop.k at.loop.inv.3.begins c.pass.ensures.1
+    pass_begins (start (zeroth at)).requires.0 at.loop-next.k at.loop-next.invariant.3.begins c.pass.ensures.1
 
 -- a pass that marks an entry is one of the first n
-more : (c : tie.Then1 invariant-loop decreases-loop)
+more : (c : tie.In-loop-next invariant-loop decreases-loop)
     → let at = at-loop c.before.before.before in
-    at.loop.k ≤ (start (zeroth at)).args.n
+    at.loop-next.k ≤ (start (zeroth at)).args.n
 more c =
     let passed = c.before.before.before in
     let at = at-loop passed in
-    let (index, begins) = (start (zeroth at)).pre in
-    let bound = pass_bound index at.loop.k at.loop.inv.3.small (sym passed.pass.ensures.0 ∙ c.if1.true) in
+    let (index, begins) = (start (zeroth at)).requires in
+    let bound = pass_bound index at.loop-next.k at.loop-next.invariant.3.small (sym passed.pass.ensures.0 ∙ c.loop-next-test.true) in
     omega (arith, bound, begins.counted)
 
 -- so the next one can be counted by four bytes
-small : (c : tie.Then1 invariant-loop decreases-loop) → (at-loop c.before.before.before).loop.k + 1 < all_ones
+small : (c : tie.In-loop-next invariant-loop decreases-loop) → (at-loop c.before.before.before).loop-next.k + 1 < all_ones
 small c =
     let at = at-loop c.before.before.before in
-    let (index, begins) = (start (zeroth at)).pre in
+    let (index, begins) = (start (zeroth at)).requires in
     omega (arith, more c, few_positions index (rules_in (start (zeroth at)).args.index.now), begins.counted)
 
 -- ── The needs ──
 
-pass-zero-requires : tie.Need-pass-zero-requires invariant-loop decreases-loop
-pass-zero-requires c κs = c.before.before.requires
+pass-zero-requires : tie.Need-pass_zero-requires invariant-loop decreases-loop
+pass-zero-requires c κs = c.requires
 
-lost-pairs-requires : tie.Need-lost-pairs-requires invariant-loop decreases-loop
+lost-pairs-requires : tie.Need-lost_pairs-losing-requires invariant-loop decreases-loop
 lost-pairs-requires c κs =
-    let passed = c.before.before.before in
+    let passed = c.before.before in
     (begins-searchable (start passed).requires.0 (zero-begins passed)).fitting
 
-loop-holds : tie.Need-loop-init invariant-loop decreases-loop
+loop-holds : tie.Need-loop-next-init invariant-loop decreases-loop
 loop-holds c =
-    let passed = c.before.before.before.before in
+    let passed = c.before.before.before in
     let begins = zero-begins passed in (
       omega arith,
       refl,
@@ -95,7 +95,7 @@ loop-holds c =
         least = omega arith;
         small = omega arith;
         begins = begins;
-        covers-lost = rw c.lost-pairs.ensures (pass_covers-lost (start passed).requires.0 0 (omega arith) begins);
+        covers-lost = rw c.lost_pairs-losing.ensures (pass_covers-lost (start passed).requires.0 0 (omega arith) begins);
         covers = λ p m e. every-pair p.left p.right;
       },
     )
@@ -103,47 +103,47 @@ loop-holds c =
 pass-requires : tie.Need-pass-requires invariant-loop decreases-loop
 pass-requires c κs =
     let at = c.before.before.before in
-    ((start (zeroth at)).pre.0, at.loop.invariant.3)
+    ((start (zeroth at)).requires.0, at.loop-next.invariant.3)
 
-add-next : tie.Need-overflow-add-next invariant-loop decreases-loop
+add-next : tie.Need-overflow_add-next invariant-loop decreases-loop
 add-next c = omega (arith, small c)
 
-lost-pairs-requires-2 : tie.Need-lost-pairs-requires-2 invariant-loop decreases-loop
+lost-pairs-requires-2 : tie.Need-lost_pairs-lost-requires invariant-loop decreases-loop
 lost-pairs-requires-2 c κs =
-    let passed = c.before.before.before.before in
-    (begins-searchable (start (zeroth (at-loop passed))).pre.0 (pass-leaves passed)).fitting
+    let passed = c.before.before.before in
+    (begins-searchable (start (zeroth (at-loop passed))).requires.0 (pass-leaves passed)).fitting
 
-lost-pairs-requires-3 : tie.Need-lost-pairs-requires-3 invariant-loop decreases-loop
+lost-pairs-requires-3 : tie.Need-lost_pairs-losing-requires-in-loop-next invariant-loop decreases-loop
 lost-pairs-requires-3 c κs =
-    let marked = c.before.before.before in
-    let passed = marked.before.before.before in
-    (begins-searchable (start (zeroth (at-loop passed))).pre.0 (pass-leaves passed)).fitting
+    let marked = c in
+    let passed = marked.before.before.before.before in
+    (begins-searchable (start (zeroth (at-loop passed))).requires.0 (pass-leaves passed)).fitting
 
-loop-less : tie.Need-loop-smaller invariant-loop decreases-loop
+loop-less : tie.Need-loop-next-smaller invariant-loop decreases-loop
 loop-less c =
-    let marked = c.before.before.before in
-    omega (arith, more marked.before.before.before)
+    let marked = c in
+    omega (arith, more marked.before.before.before.before)
 
-loop-again : tie.Need-loop-preserved invariant-loop decreases-loop
+loop-again : tie.Need-loop-next-preserved invariant-loop decreases-loop
 loop-again c =
-    let first = c.before.before.before.before in
-    let marked = first.before.before in
+    let first = c in
+    let marked = first.before.before.before.before in
     let passed = marked.before.before.before in
     let at = at-loop passed in
-    let index = (start (zeroth at)).pre.0 in
-    let k = at.loop.k in
+    let index = (start (zeroth at)).requires.0 in
+    let k = at.loop-next.k in
     let e : k + 1 - 1 ≡ k = omega arith in
-    let (few-passes, long, rest, ready) = at.loop.inv in
+    let (few-passes, long, rest, ready) = at.loop-next.invariant in
     let begins = pass-leaves passed in (
       omega (arith, more marked),
-      passed.pass.auto.0 ∙ long,
+      passed.pass.auto.table ∙ long,
       pass_rest index k ready.begins passed.pass.ensures.1 ∙ rest,
       record {
         least = omega arith;
         small = small marked;
         begins = rw e begins;
-        covers-lost = rw (e, c.before.before.lost-pairs3.ensures) (pass_covers-lost index k (small marked) begins);
-        covers = rw (c.sources.ensures, first.lost-pairs2.ensures) (pass_covers index k (small marked) begins ready.least);
+        covers-lost = rw (e, c.lost_pairs-losing-in-loop-next.ensures) (pass_covers-lost index k (small marked) begins);
+        covers = rw (c.sources-worth.ensures, first.lost_pairs-lost.ensures) (pass_covers index k (small marked) begins ready.least);
       },
     )
 
@@ -152,18 +152,18 @@ returns c =
     let passed = c.before.before.before in
     let at = at-loop passed in
     let zero = zeroth at in
-    let (index, begins) = (start zero).pre in
-    let (few-passes, long, rest, ready) = at.loop.inv in
+    let (index, begins) = (start zero).requires in
+    let (few-passes, long, rest, ready) = at.loop-next.invariant in
     let (marks, left) = passed.pass.ensures in
     left
     ∙ rw (
-      pass_final index at.loop.k ready.least (sym marks ∙ c.if1.false),
+      pass_final index at.loop-next.k ready.least (sym marks ∙ c.loop-next-test.false),
       rest,
-      pass_rest index 0 begins zero.pass-zero.ensures,
+      pass_rest index 0 begins zero.pass_zero.ensures,
     )
 
-pub rank-spec : {M : Type 1} → statement M
-rank-spec =
+pub rank_spec : {M : Type 1} → statement M
+rank_spec =
     tie.close
     (tie.spec
     invariant-loop

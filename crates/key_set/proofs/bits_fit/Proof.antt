@@ -27,5 +27,7 @@ returns : tie.Need-returns
 unfolding bits_fit
 returns c = rounded c.args.space c.args.entries
 
-pub bits-fit-spec : {M : Type 1} → statement M
-bits-fit-spec = tie.close (tie.spec (λ c. search rules) (λ c. search rules) returns)
+pub bits_fit_spec : {M : Type 1} → statement M
+bits_fit_spec =
+    tie.close
+    (tie.spec (λ c. search rules) (λ c. search rules) returns)

@@ -11,40 +11,40 @@ use Rattle.key_set.proofs.insert.Tie as tie
 insert-requires : tie.Need-insert-requires
 unfolding capacity
 insert-requires c κs =
-    let tested = c.before.before in
-    let start = tested.before.before in
+    let tested = c in
+    let start = tested in
     let a = start.args in
-    bit_inside a.space a.key a.table.now (sym tested.bits_fit.ensures ∙ c.before.if1.true) start.requires.1
+    bit_inside a.space a.key a.table.now (sym tested.bits_fit.ensures ∙ c.if-bits_fit.true) start.requires.1
 
-returns : tie.Need-returns
+returns : tie.Need-returns-then-bits_fit
 unfolding capacity
 returns c =
-    let inserted = c.before.before in
-    let chosen = inserted.before.before in
-    let start = chosen.before.before.before in
-    inserted.insert.ensures start.args.space start.requires.0 (sym chosen.before.bits_fit.ensures ∙ chosen.if1.true)
+    let inserted = c in
+    let chosen = inserted in
+    let start = chosen in
+    inserted.insert.ensures start.args.space start.requires.0 (sym chosen.bits_fit.ensures ∙ chosen.if-bits_fit.true)
     start.requires.1
 
 insert-requires-2 : tie.Need-insert-requires-2
 unfolding capacity
 insert-requires-2 c κs =
-    let tested = c.before.before in
-    let start = tested.before.before in
+    let tested = c in
+    let start = tested in
     let s = start.requires.0 in
     let few = stored_few s in
-    (s.chained (sym tested.bits_fit.ensures ∙ c.before.if1.false), (s.room, omega (arith, start.requires.2)))
+    (s.chained (sym tested.bits_fit.ensures ∙ c.if-bits_fit.false), (s.room, omega (arith, start.requires.2)))
 
-returns-2 : tie.Need-returns-2
+returns-2 : tie.Need-returns
 unfolding capacity
 returns-2 c =
-    let inserted = c.before.before in
-    let chosen = inserted.before.before in
-    let start = chosen.before.before.before in
-    inserted.insert2.ensures start.args.space start.requires.0 (sym chosen.before.bits_fit.ensures ∙ chosen.if1.false)
+    let inserted = c in
+    let chosen = inserted in
+    let start = chosen in
+    inserted.insert-2.ensures start.args.space start.requires.0 (sym chosen.bits_fit.ensures ∙ chosen.if-bits_fit.false)
     start.requires.1
 
-pub insert-spec : {M : Type 1} → statement M
-insert-spec =
+pub insert_spec : {M : Type 1} → statement M
+insert_spec =
     tie.close
     (tie.spec
     (λ c κs. search rules)

@@ -13,30 +13,30 @@ use Rattle.key_set.proofs.put_in_order.Tie as tie
 collect-requires : tie.Need-collect-requires
 unfolding capacity
 collect-requires c κs =
-    let tested = c.before.before in
-    let start = tested.before.before in
-    let fit = sym tested.bits_fit.ensures ∙ c.before.if1.true in
+    let tested = c in
+    let start = tested in
+    let fit = sym tested.bits_fit.ensures ∙ c.if-bits_fit.true in
     let s = start.requires.0 in
     ((fit, start.requires.1), omega (arith, members_few s fit, s.room))
 
-returns : tie.Need-returns
+returns : tie.Need-returns-then-bits_fit
 unfolding capacity
 returns c =
-    let collected = c.before.before in
-    let chosen = collected.before.before in
-    let start = chosen.before.before.before in
-    let fit = sym chosen.before.bits_fit.ensures ∙ chosen.if1.true in
+    let collected = c in
+    let chosen = collected in
+    let start = chosen in
+    let fit = sym chosen.bits_fit.ensures ∙ chosen.if-bits_fit.true in
     collected.collect.ensures
     ∙ ap (λ (ks : List ℕ). with_keys ks start.args.table.now) (members-sorted start.requires.0 fit)
 
-sort-keys-requires : tie.Need-sort-keys-requires
+sort-keys-requires : tie.Need-sort_keys-requires
 unfolding capacity
 sort-keys-requires c κs =
-    let start = c.before.before.before.before in
+    let start = c in
     omega (arith, start.requires.0.room)
 
-pub put-in-order-spec : {M : Type 1} → statement M
-put-in-order-spec =
+pub put_in_order_spec : {M : Type 1} → statement M
+put_in_order_spec =
     tie.close
     (tie.spec
     (λ c κs. search rules)

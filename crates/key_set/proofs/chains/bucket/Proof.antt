@@ -10,21 +10,23 @@ use Rattle.key_set.proofs.chains.bucket.Statement.{statement}
 use Rattle.key_set.proofs.chains.bucket.Tie as tie
 
 -- how many buckets are used
-used_is : (c : tie.Joined1) → c.if1.used ≡ min c.before.args.buckets most_buckets
-used_is c = ⊎_elim (λ w. w.1 ∙ omega (arith, w.0.taken)) (λ w. w.1 ∙ omega (arith, w.0.left)) c.if1.branch
+used_is : (c : tie.Joined-buckets-lt-MOST_BUCKETS) → c.if-buckets-lt-MOST_BUCKETS.used ≡ min c.args.buckets most_buckets
+used_is c = ⊎_elim (λ w. w.used-is ∙ omega (arith, w.if-buckets-lt-MOST_BUCKETS.true)) (λ w. w.used-is ∙ omega (arith, w.if-buckets-lt-MOST_BUCKETS.false)) c.if-buckets-lt-MOST_BUCKETS.branch-raw
 
-mul-result : tie.Need-overflow-mul-result
+mul-result : tie.Need-overflow_mul-result
 mul-result c =
-    let a = c.before.before.args in
+    let a = c.args in
     let scaled = hash_scaled a.key (min a.buckets most_buckets) in
-    let fits : hash_of a.key * c.before.if1.used < 2 ^ 64 = rw (used_is c.before) (omega (arith, scaled)) in
+    let fits : hash_of a.key * c.if-buckets-lt-MOST_BUCKETS.used < 2 ^ 64 = rw (used_is c.before) (omega (arith, scaled)) in
     search (rules, fits)
 
 returns : tie.Need-returns
 unfolding bucket_of
 returns c =
-    let a = c.before.before.args in
-    rw (used_is c.before) (search rules, bucket_below a.buckets a.key c.before.before.requires)
+    let a = c.args in
+    rw (used_is c.before) (search rules, bucket_below a.buckets a.key c.requires)
 
-pub bucket-spec : {M : Type 1} → statement M
-bucket-spec = tie.close (tie.spec (λ c. search rules) mul-result returns)
+pub bucket_spec : {M : Type 1} → statement M
+bucket_spec =
+    tie.close
+    (tie.spec (λ c. search rules) mul-result returns)

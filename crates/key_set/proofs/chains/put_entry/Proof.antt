@@ -7,17 +7,17 @@ use Rattle.key_set.proofs.chains.put_entry.Tie as tie
 
 returns : tie.Need-returns
 returns c =
-    let third = c.before.before in
-    let second = third.before.before.before.before in
-    let read = second.before.before in
-    let first = read.before.before.before.before in
-    let placed = first.before.before in
-    let start = placed.before.before in
+    let third = c in
+    let second = third in
+    let read = second in
+    let first = read in
+    let placed = first in
+    let start = placed in
     let a = start.args in
-    cc (add-one a.n, head-kept a.entries a.table.now a.n a.key a.b start.requires.0, placed.head-place.ensures)
+    cc (add-one a.n, head-kept a.entries a.table.now a.n a.key a.b start.requires.0, placed.head_place-at.ensures)
 
-pub put-entry-spec : {M : Type 1} → statement M
-put-entry-spec =
+pub put_entry_spec : {M : Type 1} → statement M
+put_entry_spec =
     tie.close
     (tie.spec
     (λ c κs. search rules)

@@ -11,70 +11,70 @@ use Rattle.key_set_laws.proofs.HashChains.{walking_begins, walking_goes_on, walk
 use Rattle.key_set.proofs.chains.walk.Statement.{statement}
 use Rattle.key_set.proofs.chains.walk.Tie as tie
 
-abbrev invariant-loop : tie.invariant-loop
+abbrev invariant-loop : tie.invariant-loop-at
 invariant-loop table entries key head at₀ at = Walking (entries_of entries table) key head at
 
-abbrev decreases-loop : tie.decreases-loop
+abbrev decreases-loop : tie.decreases-loop-at
 decreases-loop table entries key head at₀ at = at
 
-loop-holds : tie.Need-loop-init invariant-loop decreases-loop
+loop-holds : tie.Need-loop-at-init invariant-loop decreases-loop
 loop-holds c =
-    let a = c.before.args in
+    let a = c.args in
     walking_begins (entries_of a.entries a.table.now) a.key a.head
 
-sub-i : tie.Need-overflow-sub-i invariant-loop decreases-loop
+sub-i : tie.Need-overflow_sub-i invariant-loop decreases-loop
 sub-i c = omega arith
 
-mul-word-at : tie.Need-overflow-mul-word-at invariant-loop decreases-loop
+mul-word-at : tie.Need-overflow_mul-i invariant-loop decreases-loop
 unfolding capacity
 mul-word-at c = omega arith
 
-word-at-requires : tie.Need-word-at-requires invariant-loop decreases-loop
+word-at-requires : tie.Need-word_at-requires invariant-loop decreases-loop
 unfolding capacity
 word-at-requires c κs = omega arith
 
-returns : tie.Need-returns invariant-loop decreases-loop
+returns : tie.Need-returns-then-word_at-key invariant-loop decreases-loop
 returns c =
-    let at = c.before.before.before.loop.at in
-    (at - 1, omega arith, sym c.before.word_at.ensures ∙ c.if1.true)
+    let at = c.loop-at.at in
+    (at - 1, omega arith, sym c.word_at.ensures ∙ c.if-word_at-key.true)
 
-mul-word-at-2 : tie.Need-overflow-mul-word-at-2 invariant-loop decreases-loop
+mul-word-at-2 : tie.Need-overflow_mul-entries invariant-loop decreases-loop
 unfolding capacity
 mul-word-at-2 c = omega arith
 
-mul-word-at-3 : tie.Need-overflow-mul-word-at-3 invariant-loop decreases-loop
+mul-word-at-3 : tie.Need-overflow_mul-i-in-loop-at invariant-loop decreases-loop
 unfolding capacity
 mul-word-at-3 c = omega arith
 
-add-word-at : tie.Need-overflow-add-word-at invariant-loop decreases-loop
+add-word-at : tie.Need-overflow_add-entries invariant-loop decreases-loop
 unfolding capacity
 add-word-at c = omega arith
 
-word-at-requires-2 : tie.Need-word-at-requires-2 invariant-loop decreases-loop
+word-at-requires-2 : tie.Need-word_at-at-requires invariant-loop decreases-loop
 unfolding capacity
 word-at-requires-2 c κs = omega arith
 
-loop-less : tie.Need-loop-smaller invariant-loop decreases-loop
+loop-less : tie.Need-loop-at-smaller invariant-loop decreases-loop
 loop-less c =
-    let at-loop = c.before.before.before.before in
-    let falls = at-loop.before.before.requires.falls (at-loop.loop.at - 1) (omega arith) in
-    omega (arith, c.word-at2.ensures)
+    let at-loop = c in
+    let falls = at-loop.requires.falls (at-loop.loop-at.at - 1) (omega arith) in
+    omega (arith, c.word_at-at.ensures)
 
-loop-again : tie.Need-loop-preserved invariant-loop decreases-loop
+loop-again : tie.Need-loop-at-preserved invariant-loop decreases-loop
 loop-again c =
-    let at-loop = c.before.before.before.before in
-    let turn = at-loop.loop in
-    rw c.word-at2.ensures
-    (walking_goes_on at-loop.before.before.requires.falls turn.invariant (turn.at - 1) (omega arith)
-    (λ e. c.before.if1.false (c.before.before.word_at.ensures ∙ e)))
+    let at-loop = c in
+    let turn = at-loop.loop-at in
+    rw c.word_at-at.ensures
+    (walking_goes_on at-loop.requires.falls turn.invariant (turn.at - 1) (omega arith)
+    (λ e. c.if-word_at-key.false (c.word_at.ensures ∙ e)))
 
-returns-2 : tie.Need-returns-2 invariant-loop decreases-loop
+returns-2 : tie.Need-returns invariant-loop decreases-loop
 returns-2 c =
-    let e : c.before.loop.at ≡ 0 = omega arith in
-    walking_ends (rw e at c.before.loop.invariant)
+    let e : c.loop-at.at ≡ 0 = omega arith in
+    walking_ends (rw e at c.loop-at.invariant)
 
-pub walk-spec : {M : Type 1} → statement M
-walk-spec =
+pub walk_spec : {M : Type 1} → statement M
+walk_spec =
     tie.close
     (tie.spec
     invariant-loop

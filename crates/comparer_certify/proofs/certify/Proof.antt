@@ -17,84 +17,84 @@ use Rattle.comparer_certify.proofs.certify.Tie as tie
 ready : (c : tie.Start) → Searchable (of_table c.args.n) c.args.table.now
 ready c = searchable c.requires.0 c.requires.1
 
-rounds-of-requires : tie.Need-rounds-of-requires
-rounds-of-requires c κs = ready c.before.before.before.before
+rounds-of-requires : tie.Need-rounds_of-rounds-requires
+rounds-of-requires c κs = ready c.before.before.before
 
 -- the rounds that are read are the start's
-read : (c : tie.After-rounds-of) → let start = c.before.before.before.before.before in
-    rounds_for start.args.n (task_in start.args.index.now).start start.args.table.now ≡ c.rounds-of.result
+read : (c : tie.After-rounds_of-rounds) → let start = c in
+    rounds_for start.args.n (task_in start.args.index.now).start start.args.table.now ≡ c.rounds_of-rounds.result
 unfolding task_in
-read c = rw (c.rounds-of.ensures, c.before.start.ensures)
+read c = rw (c.rounds_of-rounds.ensures, c.start.ensures)
 
 write-requires : tie.Need-write-requires
 write-requires c κs =
-    let begun = c.before.before.before in
-    let start = begun.before.before.before.before.before in
+    let begun = c in
+    let start = begun.before.before.before.before.before.before in
     (ready start, start.requires.0)
 
-returns : tie.Need-returns
+returns : tie.Need-returns-then-rounds
 returns c =
-    let done = c.before.before in
-    let never = done.before.before.before in
-    let begun = never.before in
-    let start = begun.before.before.before.before.before in
-    rw (← never_lost start.requires.0 start.requires.1 (read begun ∙ never.if1.true)) done.write.ensures
+    let done = c in
+    let never = done in
+    let begun = never.before.before.before.before.before in
+    let start = begun in
+    rw (← never_lost start.requires.0 start.requires.1 (read begun ∙ never.if-rounds.true)) done.write.ensures
 
 -- what holds of a start that is lost
-facts : (c : tie.Else1) → let begun = c.before in
-    let start = begun.before.before.before.before.before in
-    LostStart start.requires.0 start.requires.1 begun.rounds-of.result
+facts : (c : tie.Else-rounds) → let begun = c in
+    let start = begun in
+    LostStart start.requires.0 start.requires.1 begun.rounds_of-rounds.result
 facts c =
     let begun = c.before in
-    let start = begun.before.before.before.before.before in
-    lost start.requires.0 start.requires.1 _ (read begun) c.if1.false
+    let start = begun in
+    lost start.requires.0 start.requires.1 _ (read begun) c.if-rounds.false
 
 prepare-requires : tie.Need-prepare-requires
 prepare-requires c κs =
     let attacked = c.before in
-    let begun = attacked.before in
+    let begun = attacked in
     let start = begun.before.before.before.before.before in
     (ready start, (start.requires.0, (facts attacked).small))
 
 -- positions can be looked up while marks stand
-marked : (c : tie.After-prepare) → let begun = c.before.before.before in
-    let start = begun.before.before.before.before.before in
-    Searchable (of_table start.args.n) c.prepare.new.0
+marked : (c : tie.After-prepare) → let begun = c in
+    let start = begun in
+    Searchable (of_table start.args.n) c.prepare.new.table
 marked c =
-    let begun = c.before.before.before in
-    let start = begun.before.before.before.before.before in
+    let begun = c in
+    let start = begun.before.before.before.before.before.before.before in
     rw c.prepare.ensures (searchable-kept (ready start) (kept-prepared _ _ _ _ start.args.table.now))
 
-write-requires-2 : tie.Need-write-requires-2
+write-requires-2 : tie.Need-write-answer-requires
 write-requires-2 c κs =
-    let prepared = c.before.before.before.before in
-    let begun = prepared.before.before.before in
-    let start = begun.before.before.before.before.before in
+    let prepared = c.before.before.before in
+    let begun = prepared in
+    let start = begun in
     (marked prepared, start.requires.0)
 
 rescale-requires : tie.Need-rescale-requires
 rescale-requires c κs =
-    let done = c.before.before.before in
-    (marked done.before.before.before.before.before).fitting
+    let done = c in
+    (marked done.before.before.before.before.before.before.before).fitting
 
-returns-2 : tie.Need-returns-2
+returns-2 : tie.Need-returns
 returns-2 c =
-    let halved = c.before.before in
-    let done = halved.before.before.before.before in
-    let prepared = done.before.before.before.before.before in
-    let attacked = prepared.before.before in
-    let begun = attacked.before in
-    let a = begun.before.before.before.before.before.args in
-    let whole : records_in a.index.now Lost a.n prepared.prepare.new.0 ≡ certificate_in a.index.now =
+    let halved = c in
+    let done = halved in
+    let prepared = done in
+    let attacked = prepared.before.before.before.before.before.before.before.before.before.before.before.before in
+    let begun = attacked in
+    let a = begun.args in
+    let whole : records_in a.index.now Lost a.n prepared.prepare.new.table ≡ certificate_in a.index.now =
     rw prepared.prepare.ensures (facts attacked).certificate in
     record {
-      answers = rw (← whole) done.write2.ensures.answers;
+      answers = rw (← whole) done.write-answer.ensures.answers;
       restored = rw (halved.rescale.ensures, prepared.prepare.ensures) (facts attacked).restored;
-      written = rw (← whole) done.write2.ensures.written;
+      written = rw (← whole) done.write-answer.ensures.written;
     }
 
-pub certify-spec : {M : Type 1} → statement M
-certify-spec =
+pub certify_spec : {M : Type 1} → statement M
+certify_spec =
     tie.close
     (tie.spec
     (λ c κs. search rules)

@@ -7,8 +7,10 @@ use Rattle.comparer_certify.proofs.fields.kind_of.Tie as tie
 
 returns : tie.Need-returns
 returns c =
-    let told = c.before in
-    c.kind.ensures ∙ ap kind_of (rw told.before.game.ensures at told.of.ensures)
+    let told = c in
+    c.kind.ensures ∙ ap kind_of (rw told.game.ensures at told.of-verdict.ensures)
 
-pub kind-of-spec : {M : Type 1} → statement M
-kind-of-spec = tie.close (tie.spec (λ c κs. search rules) (λ c κs. search rules) (λ c κs. search rules) returns)
+pub kind_of_spec : {M : Type 1} → statement M
+kind_of_spec =
+    tie.close
+    (tie.spec (λ c κs. search rules) (λ c κs. search rules) (λ c κs. search rules) returns)

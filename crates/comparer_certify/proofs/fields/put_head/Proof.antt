@@ -12,17 +12,17 @@ use Rattle.comparer_certify.proofs.fields.put_head.Tie as tie
 returns : tie.Need-returns
 unfolding kept_record
 returns c =
-    let written = c.before.before in
-    let a = written.before.before.before.args in
+    let written = c in
+    let a = written.args in
     let one : a.at + record_position ≡ suc a.at = omega arith in
-    rw (written.put-position.ensures, one)
+    rw (written.put_position.ensures, one)
 
-pub put-head-spec : {M : Type 1} → statement M
-put-head-spec =
+pub put_head_spec : {M : Type 1} → statement M
+put_head_spec =
     tie.close
     (tie.spec
     (λ c. search rules)
     (λ c. search rules)
     (λ c κs. rw length-set (omega arith))
-    (λ c. c.before.before.put-position.auto.0 ∙ simp length-set)
+    (λ c. c.before.before.put_position.auto.list ∙ simp length-set)
     returns)

@@ -10,35 +10,35 @@ use borrow.Author.Rules.{rules}
 use Rattle.checker.proofs.check.Statement.{statement}
 use Rattle.checker.proofs.check.Tie as tie
 
-is_read : (c : tie.After-enum-told) → (read_task c.before.before.before.before.before.args.file.now).answer ≡ Read
-is_read c = sym (ap (λ (x : TaskRead). x.answer) c.before.before.read-task.ensures) ∙ c.enum_told.given.1
+is_read : (c : tie.In_default) → (read_task c.args.file.now).answer ≡ Read
+is_read c = sym (ap (λ (x : TaskRead). x.answer) c.read_task-read.ensures) ∙ c.in_default.is
 
-returns : tie.Need-returns
+returns : tie.Need-returns-in-Refused
 unfolding check check_read
 returns c =
-    let told = c.before in
-    rw (← told.before.before.read-task.ensures, told.answer.given.1)
+    let told = c in
+    rw (← told.read_task-read.ensures, told.in-Refused.is)
 
-of-requires : tie.Need-of-requires
+of-requires : tie.Need-of-index-requires
 of-requires c κs =
-    let read = c.before.before in
-    let file = read.before.before.before.args.file.now in
-    rw read.read-task.ensures (record { valid = read-valid file (is_read c); tags = read-tags file (is_read c) })
+    let read = c in
+    let file = read.args.file.now in
+    rw read.read_task-read.ensures (record { valid = read-valid file (is_read c.before); tags = read-tags file (is_read c.before) })
 
-check-indexed-requires : tie.Need-check-indexed-requires
-check-indexed-requires c κs = (index_of c.before.of.ensures).index
+check-indexed-requires : tie.Need-check_indexed-requires
+check-indexed-requires c κs = (index_of c.of-index.ensures).index
 
-returns-2 : tie.Need-returns-2
+returns-2 : tie.Need-returns
 unfolding check check_read
 returns-2 c =
-    let made = c.before.before in
-    let told = made.before in
-    let indexed = index_of made.of.ensures in
-    rw (← told.before.before.read-task.ensures, told.enum_told.given.1)
-    (rw (indexed.task, indexed.game) at c.check-indexed.ensures)
+    let made = c in
+    let told = made in
+    let indexed = index_of made.of-index.ensures in
+    rw (← told.read_task-read.ensures, told.in_default.is)
+    (rw (indexed.task, indexed.game) at c.check_indexed.ensures)
 
-pub check-spec : {M : Type 1} → statement M
-check-spec =
+pub check_spec : {M : Type 1} → statement M
+check_spec =
     tie.close
     (tie.spec
     (λ c κs. search rules)

@@ -10,54 +10,54 @@ use Rattle.checker.proofs.check_indexed.Statement.{statement}
 use Rattle.checker.proofs.check_indexed.Tie as tie
 
 -- the kinds that the first byte is compared with are the game's
-kept-kind : (c : tie.After-kind) → let a = c.before.before.before.before.before.before.args in
+kept-kind : (c : tie.After-kind) → let a = c.args in
     c.kind.result ≡ kind_of (verdict_of (game_in a.index.now) Kept)
 kept-kind c =
-    let kept = c.before.before in
-    c.kind.ensures ∙ ap kind_of (rw kept.before.game.ensures at kept.of.ensures)
+    let kept = c in
+    c.kind.ensures ∙ ap kind_of (rw kept.game-game.ensures at kept.of-kept.ensures)
 
-lost-kind : (c : tie.After-kind2) → let a = c.before.before.before.before.before.before.before.before.before.before.args in
-    c.kind2.result ≡ kind_of (verdict_of (game_in a.index.now) Lost)
+lost-kind : (c : tie.After-kind-2) → let a = c.args in
+    c.kind-2.result ≡ kind_of (verdict_of (game_in a.index.now) Lost)
 lost-kind c =
-    let lost = c.before.before in
-    let kept = lost.before.before.before.before in
-    c.kind2.ensures ∙ ap kind_of (rw kept.before.game.ensures at lost.of2.ensures)
+    let lost = c in
+    let kept = lost in
+    c.kind-2.ensures ∙ ap kind_of (rw kept.game-game.ensures at lost.of-lost.ensures)
 
-returns : tie.Need-returns
+returns : tie.Need-returns-then-certificate-eq0
 returns c =
-    let a = c.before.before.args in
+    let a = c.args in
     let b = a.index.now in
-    sym (answer-empty (game_in b) (task_in b) a.certificate.now c.if1.true)
+    sym (answer-empty (game_in b) (task_in b) a.certificate.now c.if-certificate-eq0.true)
 
-returns-2 : tie.Need-returns-2
+returns-2 : tie.Need-returns-then-certificate-kind
 returns-2 c =
-    let then = c.before in
-    let a = then.before.before.before.before.before.before.before.args in
+    let then = c in
+    let a = then.args in
     let b = a.index.now in
-    rw (answer-kept (game_in b) (task_in b) a.certificate.now (omega arith) (then.if2.true ∙ kept-kind then.before))
-    c.check-list.ensures
+    rw (answer-kept (game_in b) (task_in b) a.certificate.now (omega arith) (then.if-certificate-kind.true ∙ kept-kind then.before.before))
+    c.check_list.ensures
 
-returns-3 : tie.Need-returns-3
+returns-3 : tie.Need-returns-then-certificate-kind-2
 returns-3 c =
-    let then = c.before in
-    let a = then.before.before.before.before.before.before.before.before.before.before.before.args in
+    let then = c in
+    let a = then.args in
     let b = a.index.now in
-    rw (answer-lost (game_in b) (task_in b) a.certificate.now (omega arith) (then.if3.true ∙ lost-kind then.before))
-    c.check-list2.ensures
+    rw (answer-lost (game_in b) (task_in b) a.certificate.now (omega arith) (then.if-certificate-kind-2.true ∙ lost-kind then.before.before))
+    c.check_list-then-certificate-kind-2.ensures
 
-returns-4 : tie.Need-returns-4
+returns-4 : tie.Need-returns
 returns-4 c =
     let lost = c.before in
-    let other = lost.before.before.before in
-    let a = other.before.before.before.before.before.before.before.args in
+    let other = lost in
+    let a = other.args in
     let b = a.index.now in
     sym
     (answer-unknown (game_in b) (task_in b) a.certificate.now (omega arith)
-    (λ e. other.if2.false (e ∙ sym (kept-kind other.before)))
-    (λ e. c.if3.false (e ∙ sym (lost-kind lost))))
+    (λ e. other.if-certificate-kind.false (e ∙ sym (kept-kind other.before.before.before.before)))
+    (λ e. c.if-certificate-kind-2.false (e ∙ sym (lost-kind lost))))
 
-pub check-indexed-spec : {M : Type 1} → statement M
-check-indexed-spec =
+pub check_indexed_spec : {M : Type 1} → statement M
+check_indexed_spec =
     tie.close
     (tie.spec
     returns

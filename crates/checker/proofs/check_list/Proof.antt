@@ -13,69 +13,69 @@ use Rattle.checker.proofs.check_list.Statement.{statement}
 use Rattle.checker.proofs.check_list.Tie as tie
 
 -- the verdict is the game's
-verdict : (c : tie.After-of) → let a = c.before.before.before.args in
-    c.of.result ≡ verdict_of (game_in a.index.now) a.standing
-verdict c = rw c.before.game.ensures at c.of.ensures
+verdict : (c : tie.After-of-verdict) → let a = c.args in
+    c.of-verdict.result ≡ verdict_of (game_in a.index.now) a.standing
+verdict c = rw c.game.ensures at c.of-verdict.ensures
 
 -- what the test for form says
 is-formed : (c : tie.After-formed)
-    → let a = c.before.before.before.before.before.before.args in
+    → let a = c.args in
     let l = a.certificate.now in
     c.formed.result ≡ formed (task_in a.index.now) (kind_of (verdict_of (game_in a.index.now) a.standing)) (records_of a.standing (length l)) l
 is-formed c =
     let told = c.before.before.before in
-    rw (c.before.kind.ensures, c.before.before.records-of.ensures, verdict told) at c.formed.ensures
+    rw (c.kind.ensures, c.records_of-records.ensures, verdict told) at c.formed.ensures
 
 -- a position can be looked up in well-formed records
-searchable : (c : tie.Else1)
-    → let a = c.before.before.before.before.before.before.before.args in
+searchable : (c : tie.Else-not-formed)
+    → let a = c.args in
     let l = a.certificate.now in
     Searchable (records_of a.standing (length l)) l
 searchable c =
-    let a = c.before.before.before.before.before.before.before.args in
-    let passes = sym (is-formed c.before) ∙ not-false _ c.if1.false in
+    let a = c.args in
+    let passes = sym (is-formed c.before) ∙ not-false _ c.if-not-formed.false-raw in
     formed-searchable _ _ (task_in a.index.now) (kind_of (verdict_of (game_in a.index.now) a.standing)) passes
     (records_fit a.standing a.certificate.now)
 
 formed-requires : tie.Need-formed-requires
 formed-requires c κs =
-    let listed = c.before in
-    let a = listed.before.before.before.before.args in
-    rw listed.records-of.ensures (records_fit a.standing a.certificate.now)
+    let listed = c in
+    let a = listed.args in
+    rw listed.records_of-records.ensures (records_fit a.standing a.certificate.now)
 
-returns : tie.Need-returns
+returns : tie.Need-returns-then-not-formed
 unfolding judge_list
-returns c = rw (sym (is-formed c.before) ∙ not-true _ c.if1.true)
+returns c = rw (sym (is-formed c.before) ∙ not-true _ c.if-not-formed.true-raw)
 
 accepted-requires : tie.Need-accepted-requires
-accepted-requires c κs = (c.before.before.before.before.before.before.before.requires, searchable c)
+accepted-requires c κs = (c.requires, searchable c)
 
-returns-2 : tie.Need-returns-2
+returns-2 : tie.Need-returns-then-not-accepted
 unfolding judge_list
 returns-2 c =
-    let formed = c.before.before in
+    let formed = c in
     rw (
-      sym (is-formed formed.before) ∙ not-false _ formed.if1.false,
-      sym c.before.accepted.ensures ∙ not-true _ c.if2.true,
+      sym (is-formed formed.before.before.before) ∙ not-false _ formed.if-not-formed.false-raw,
+      sym c.accepted.ensures ∙ not-true _ c.if-not-accepted.true-raw,
     )
 
-start-rounds-requires : tie.Need-start-rounds-requires
+start-rounds-requires : tie.Need-start_rounds-requires
 start-rounds-requires c κs = searchable c.before.before
 
-returns-3 : tie.Need-returns-3
+returns-3 : tie.Need-returns
 unfolding judge_list
 returns-3 c =
-    let accepted = c.before in
-    let formed = accepted.before.before in
+    let accepted = c in
+    let formed = accepted in
     rw (
-      sym (is-formed formed.before) ∙ not-false _ formed.if1.false,
-      sym accepted.before.accepted.ensures ∙ not-false _ accepted.if2.false,
-      c.start-rounds.ensures,
-      verdict formed.before.before.before.before,
+      sym (is-formed formed.before.before.before.before) ∙ not-false _ formed.if-not-formed.false-raw,
+      sym accepted.accepted.ensures ∙ not-false _ accepted.if-not-accepted.false-raw,
+      c.start_rounds.ensures,
+      verdict formed.before.before.before.before.before.before.before,
     )
 
-pub check-list-spec : {M : Type 1} → statement M
-check-list-spec =
+pub check_list_spec : {M : Type 1} → statement M
+check_list_spec =
     tie.close
     (tie.spec
     (λ c κs. search rules)

@@ -19,7 +19,7 @@ use Rattle.comparer_explore.proofs.explore.Tie as tie
 
 -- the table is cleared, and the start has a key
 module _ (c : tie.After-start) where
-  abbrev of : tie.After-of
+  abbrev of : tie.After-of-radix
   of = c.before
 
   abbrev cleared : tie.After-clear
@@ -35,84 +35,84 @@ module _ (c : tie.After-start) where
   unfolding task_in
   start_is = c.start.ensures
 
-key-requires : tie.Need-key-requires
+key-requires : tie.Need-key-first-requires
 key-requires c κs =
     let index = (begun c).requires in (
-      rw (of c).of.ensures (radix_sized index),
-      subst (λ x. Fits x c.start.result) (sym (of c).of.ensures) (subst (Fits (radix_of (t c))) (sym (start_is c)) (start_fits index)),
+      rw (of c).of-radix.ensures (radix_sized index),
+      subst (λ x. Fits x c.start.result) (sym (of c).of-radix.ensures) (subst (Fits (radix_of (t c))) (sym (start_is c)) (start_fits index)),
     )
 
-key-count-requires : tie.Need-key-count-requires
-key-count-requires c κs = let first = c.before.before in rw (of first).of.ensures (radix_sized (begun first).requires)
+key-count-requires : tie.Need-key_count-requires
+key-count-requires c κs = let first = c.before.before in rw (of first).of-radix.ensures (radix_sized (begun first).requires)
 
 -- the first visit is of the start's key
-module _ (c : tie.After-key-count) where
+module _ (c : tie.After-key_count) where
   abbrev first : tie.After-start
   first = c.before.before.before
 
-  key_is : c.before.before.key.result ≡ key_of (radix_of (t first)) (t first).start
-  key_is = c.before.before.key.ensures ∙ ap₂ key_of (of first).of.ensures (start_is first)
+  key_is : c.key-first.result ≡ key_of (radix_of (t first)) (t first).start
+  key_is = c.key-first.ensures ∙ ap₂ key_of (of first).of-radix.ensures (start_is first)
 
-  count : c.key-count.result ≡ key_count (radix_of (t first))
-  count = c.key-count.ensures ∙ ap key_count (of first).of.ensures
+  count : c.key_count.result ≡ key_count (radix_of (t first))
+  count = c.key_count.ensures ∙ ap key_count (of first).of-radix.ensures
 
 visit-requires : tie.Need-visit-requires
 visit-requires c κs =
     let at = first c in
-    let index = (begun at).pre in
-    let none = stored_none c.key-count.result (begun at).args.table.now in (
-      subst (λ l. Stored c.key-count.result 0 l) (sym (cleared at).clear.ensures) none,
+    let index = (begun at).requires in
+    let none = stored_none c.key_count.result (begun at).args.table.now in (
+      subst (λ l. Stored c.key_count.result 0 l) (sym (cleared at).clear.ensures) none,
       omega (arith, key_is c, count c, start-below index),
       omega (arith, count c, key_count-small (radix_sized index)),
     )
 
 visited : (c : tie.After-visit) → let counted = c.before in
     let at = first counted in
-    Visited (key_count (radix_of (t at))) (λ k. k ≡ key_of (radix_of (t at)) (t at).start) 0 (cleared at).clear.last.0
-    c.visit.result c.visit.new.0
+    Visited (key_count (radix_of (t at))) (λ k. k ≡ key_of (radix_of (t at)) (t at).start) 0 (cleared at).clear.new.table
+    c.visit.result c.visit.new.table
 visited c =
     let counted = c.before in
     let at = first counted in
-    let old = (cleared at).clear.last.0 in
+    let old = (cleared at).clear.new.table in
     let r = c.visit.result in
-    let new = c.visit.new.0 in
+    let new = c.visit.new.table in
     let e = key_is counted in
     visited_as (key_count (radix_of (t at))) 0 old r new (λ k d. d ∙ e) (λ k d. d ∙ sym e)
-    (subst (λ n. Visited n (λ k. k ≡ counted.before.before.key.result) 0 old r new) (count counted) c.visit.ensures)
+    (subst (λ n. Visited n (λ k. k ≡ counted.key-first.result) 0 old r new) (count counted) c.visit.ensures)
 
-returns : tie.Need-returns
+returns : tie.Need-returns-in_default
 returns c =
-    let call = c.before.before.before.before in
+    let call = c.before.before.before in
     let at = first call.before in
-    explores_from TooMany (cleared at).clear.kept.0
+    explores_from TooMany (cleared at).clear.auto.table
     (explores_too_many
-    (first_overflows (begun at).pre
-    (visited_full (key_count (radix_of (t at))) _ 0 (cleared at).clear.last.0 call.visit.result call.visit.new.0 (visited call)
-    c.enum_told.given.1))
-    call.visit.auto.0)
+    (first_overflows (begun at).requires
+    (visited_full (key_count (radix_of (t at))) _ 0 (cleared at).clear.new.table call.visit.result call.visit.new.table (visited call)
+    c.in_default.is))
+    call.visit.auto.table)
 
-expand-all-requires : tie.Need-expand-all-requires
+expand-all-requires : tie.Need-expand_all-requires
 expand-all-requires c κs =
-    let found = c.before.before in
+    let found = c in
     let call = found.before.before.before.before in
     let at = first call.before in
-    let index = (begun at).pre in (
-      (index, (of at).of.ensures),
+    let index = (begun at).requires in (
+      (index, (of at).of-radix.ensures),
       exploring_begins index
-          (visited-all (key_count (radix_of (t at))) _ 0 (cleared at).clear.last.0 call.visit.result call.visit.new.0
-          (visited call) found.n.given.0.0 found.n.given.1),
+          (visited-all (key_count (radix_of (t at))) _ 0 (cleared at).clear.new.table call.visit.result call.visit.new.table
+          (visited call) found.in-Count.n found.in-Count.is),
     )
 
-returns-2 : tie.Need-returns-2
+returns-2 : tie.Need-returns
 returns-2 c =
-    let expanded = c.before.before in
-    let found = expanded.before.before.before in
-    let call = found.before.before.before.before in
-    explores_from expanded.expand-all.result (call.visit.auto.0 ∙ (cleared (first call.before)).clear.kept.0)
-    expanded.expand-all.ensures
+    let expanded = c in
+    let found = expanded in
+    let call = found in
+    explores_from expanded.expand_all.result (call.visit.auto.table ∙ (cleared (first call.before.before.before.before.before.before.before.before)).clear.auto.table)
+    expanded.expand_all.ensures
 
-pub explore-spec : {M : Type 1} → statement M
-explore-spec =
+pub explore_spec : {M : Type 1} → statement M
+explore_spec =
     tie.close
     (tie.spec
     (λ c κs. search rules)

@@ -4,11 +4,13 @@ use Rattle.game_moves.proofs.TestBytes.{times_test, times_test-most}
 use Rattle.comparer_explore.proofs.expand.in_set.Statement.{statement}
 use Rattle.comparer_explore.proofs.expand.in_set.Tie as tie
 
-mul-result : tie.Need-overflow-mul-result
-mul-result c = search (rules, times_test-most c.has.result c.before.args.i)
+mul-result : tie.Need-overflow_mul-result
+mul-result c = search (rules, times_test-most c.has.result c.args.i)
 
 returns : tie.Need-returns
-returns c = rw (← c.has.ensures) (times_test c.has.result c.before.args.i)
+returns c = rw (← c.has.ensures) (times_test c.has.result c.args.i)
 
-pub in-set-spec : {M : Type 1} → statement M
-in-set-spec = tie.close (tie.spec (λ c κs. search rules) (λ c. search rules) mul-result returns)
+pub in_set_spec : {M : Type 1} → statement M
+in_set_spec =
+    tie.close
+    (tie.spec (λ c κs. search rules) (λ c. search rules) mul-result returns)

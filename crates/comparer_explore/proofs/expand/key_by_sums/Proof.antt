@@ -41,11 +41,11 @@ module _ (start : tie.Start) where
   summed = start.args.half.rest.word + start.args.right.register * start.args.half.rest.place
 
   sum : word + added ≡ summed
-  sum = start.pre.1.sum
+  sum = start.requires.1.sum
 
   few : word < word_limit
   unfolding joined_to
-  few = word_small start.pre.0.0 start.pre.0.1
+  few = word_small start.requires.0.0 start.requires.0.1
 
   after : Position
   after = joined_to start.args.half start.args.size start.args.left start.args.right
@@ -56,13 +56,13 @@ module _ (start : tie.Start) where
       let a = start.args in
       let used =
       take a.radix.registers (joined_by a.right.set a.half.register a.right.register 1 a.half.partners) in
-      let long : length used ≡ a.radix.registers = used-length start.pre.0.0 start.pre.0.1 in
+      let long : length used ≡ a.radix.registers = used-length start.requires.0.0 start.requires.0.1 in
       sym (value_front partner_base states used ∙ ap (λ (n : ℕ). states * place_of n + word) long)
 
   front_small : states * places + word < key_limit
   unfolding after value
   front_small =
-      key_part_small start.pre.0.0 start.pre.0.1 (states * places + word) [] front
+      key_part_small start.requires.0.0 start.requires.0.1 (states * places + word) [] front
 
   states-small : states < key_limit
   states-small =
@@ -70,7 +70,7 @@ module _ (start : tie.Start) where
       omega (arith, front_small)
 
   summed-small : summed < key_limit
-  summed-small = omega (arith, sum, few, start.pre.1.small)
+  summed-small = omega (arith, sum, few, start.requires.1.small)
 
   whole : (states * places + word) * sizes_of start.args.radix + (start.args.size - start.args.radix.least)
       ≡ key_of start.args.radix (joined_to start.args.half start.args.size start.args.left start.args.right)
@@ -79,32 +79,32 @@ module _ (start : tie.Start) where
 
   whole-small : (states * places + word) * sizes_of start.args.radix + (start.args.size - start.args.radix.least)
       < key_limit
-  whole-small = rw (whole) (key-small start.pre.0.0 start.pre.0.1)
+  whole-small = rw (whole) (key-small start.requires.0.0 start.requires.0.1)
 
-mul-states : tie.Need-overflow-mul-states
+mul-states : tie.Need-overflow_mul-states
 mul-states c =
     let start = c.before.before.before in
     let h : start.args.left * start.args.radix.right < key_limit = omega (arith, states-small start) in
     search (rules, h)
 
-add-states : tie.Need-overflow-add-states
+add-states : tie.Need-overflow_add-states
 add-states c = let h = states-small c.before.before.before.before in search (rules, h)
 
-mul-joined : tie.Need-overflow-mul-joined
+mul-joined : tie.Need-overflow_mul-joined
 mul-joined c =
     let start = c.before.before.before.before.before.before in
     let h : start.args.right.register * start.args.half.rest.place < key_limit = omega (arith, summed-small start) in
     search (rules, h)
 
-add-joined : tie.Need-overflow-add-joined
+add-joined : tie.Need-overflow_add-joined
 add-joined c =
     let h = summed-small c.before.before.before.before.before.before.before in
     search (rules, h)
 
-array-read-joined : tie.Need-array-read-joined
-array-read-joined c = c.before.before.before.before.before.before.before.before.requires.1.digit
+array-read-joined : tie.Need-bounds-adds-right
+array-read-joined c = c.requires.1.digit
 
-sub-joined : tie.Need-overflow-sub-joined
+sub-joined : tie.Need-overflow_sub-joined
 sub-joined c =
     let start = c.before.before.before.before.before.before.before.before in
     let h : added start ≤ summed start = omega (arith, sum start) in
@@ -114,51 +114,51 @@ sub-joined c =
 joined : (start : tie.Start) → summed start - added start ≡ word start
 joined start = omega (arith, sum start)
 
-mul-front : tie.Need-overflow-mul-front
+mul-front : tie.Need-overflow_mul-front
 mul-front c =
     let start = c.before.before.before.before.before.before.before.before.before in
     let h : states start * c.place_of.result < key_limit = rw c.place_of.ensures (omega (arith, front_small start)) in
     search (rules, h)
 
-add-front : tie.Need-overflow-add-front
+add-front : tie.Need-overflow_add-front
 add-front c =
     let start = c.before.before.before.before.before.before.before.before.before in
     let h : states start * c.place_of.result + (summed start - added start) < key_limit =
     rw (c.place_of.ensures, joined start) (front_small start) in
     search (rules, h)
 
-mul-result : tie.Need-overflow-mul-result
+mul-result : tie.Need-overflow_mul-result
 mul-result c =
     let start = c.before.before.before.before.before.before.before.before.before.before in
-    let h : (states start * c.before.place_of.result + (summed start - added start)) * c.sizes.result < key_limit =
-    rw (c.before.place_of.ensures, joined start, c.sizes.ensures) (omega (arith, whole-small start)) in
+    let h : (states start * c.place_of.result + (summed start - added start)) * c.sizes.result < key_limit =
+    rw (c.place_of.ensures, joined start, c.sizes.ensures) (omega (arith, whole-small start)) in
     search (rules, h)
 
-sub-result : tie.Need-overflow-sub-result
+sub-result : tie.Need-overflow_sub-result
 unfolding joined_to
 sub-result c =
-    let start = c.before.before.before.before.before.before.before.before.before.before.before in
+    let start = c in
     let h = start.requires.0.1.least in
     search (rules, h)
 
-add-result : tie.Need-overflow-add-result
+add-result : tie.Need-overflow_add-result
 add-result c =
-    let made = c.before in
-    let start = made.before.before.before.before.before.before.before.before.before.before in
-    let h : (states start * made.before.place_of.result + (summed start - added start)) * made.sizes.result
+    let made = c in
+    let start = made.before.before.before.before.before.before.before.before.before.before.before in
+    let h : (states start * made.place_of.result + (summed start - added start)) * made.sizes.result
     + (start.args.size - start.args.radix.least)
     < key_limit =
-    rw (made.before.place_of.ensures, joined start, made.sizes.ensures) (whole-small start) in
+    rw (made.place_of.ensures, joined start, made.sizes.ensures) (whole-small start) in
     search (rules, h)
 
 returns : tie.Need-returns
 returns c =
-    let made = c.before in
-    let start = made.before.before.before.before.before.before.before.before.before.before in
-    rw (made.before.place_of.ensures, joined start, made.sizes.ensures) (whole start)
+    let made = c in
+    let start = made.before.before.before.before.before.before.before.before.before.before.before in
+    rw (made.place_of.ensures, joined start, made.sizes.ensures) (whole start)
 
-pub key-by-sums-spec : {M : Type 1} → statement M
-key-by-sums-spec =
+pub key_by_sums_spec : {M : Type 1} → statement M
+key_by_sums_spec =
     tie.close
     (tie.spec
     (λ c. search rules)

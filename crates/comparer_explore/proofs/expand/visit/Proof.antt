@@ -6,27 +6,27 @@ use Rattle.outcome.specs.Compare.{capacity}
 use Rattle.comparer_explore.proofs.expand.visit.Statement.{statement}
 use Rattle.comparer_explore.proofs.expand.visit.Tie as tie
 
-add-t9 : tie.Need-overflow-add-t9
+add-t9 : tie.Need-overflow_add-result
 unfolding capacity
 add-t9 c =
-    let inserted = c.before.before.before.before in
-    omega (arith, inserted.before.before.before.requires.0.room)
+    let inserted = c in
+    omega (arith, inserted.requires.0.room)
 
-returns : tie.Need-returns
+returns : tie.Need-returns-in-Present
 returns c =
-    rw c.enum_told.given.1 at c.before.before.before.before.insert.ensures
+    rw c.in-Present.is at c.insert.ensures
 
-returns-2 : tie.Need-returns-2
+returns-2 : tie.Need-returns-in-Added
 returns-2 c =
     rw add-one
-    (rw c.enum-told2.given.1 at c.before.before.before.before.insert.ensures)
+    (rw c.in-Added.is at c.insert.ensures)
 
-returns-3 : tie.Need-returns-3
+returns-3 : tie.Need-returns-in-Full
 returns-3 c =
-    rw c.enum-told3.given.1 at c.before.before.before.before.insert.ensures
+    rw c.in-Full.is at c.insert.ensures
 
-pub visit-spec : {M : Type 1} → statement M
-visit-spec =
+pub visit_spec : {M : Type 1} → statement M
+visit_spec =
     tie.close
     (tie.spec
     (λ c κs. search rules)

@@ -25,112 +25,112 @@ use Rattle.comparer_explore.proofs.expand.visit_edges.Tie as tie
 abbrev wanted : Source → Transition → List ℕ → ℕ → ℕ → Type 0
 wanted s left index k = PairKey s.radix s.room s.position left (transition_of (model_in index Right) k)
 
-abbrev invariant-loop : tie.invariant-loop
+abbrev invariant-loop : tie.invariant-loop-k
 invariant-loop table₀ n source half left index partners kind end m₀ k₀ table m k =
     Passed source.keys k₀ end (wanted source left index) k n table₀ m table
 
-abbrev decreases-loop : tie.decreases-loop
+abbrev decreases-loop : tie.decreases-loop-k
 decreases-loop table₀ n source half left index partners kind end m₀ k₀ table m k = end - k
 
-loop-holds : tie.Need-loop-init invariant-loop decreases-loop
+loop-holds : tie.Need-loop-k-init invariant-loop decreases-loop
 loop-holds c =
-    let start = c.before.before.before in
+    let start = c in
     let a = start.args in
     passed_none a.edges.first a.edges.end (wanted a.source a.left a.index.now) start.requires.0.0
 
 six : (c : tie.Start invariant-loop decreases-loop) → length c.args.source.position.partners ≡ 6
 six c = search rules
 
-slice-aggregate-joint : tie.Need-slice-aggregate-joint invariant-loop decreases-loop
+slice-aggregate-joint : tie.Need-slice_bounds-joint-end invariant-loop decreases-loop
 slice-aggregate-joint c = sym (six c.before.before.before.before.before.before.before)
 
 joint-requires : tie.Need-joint-requires invariant-loop decreases-loop
 joint-requires c κs = six c.before.before.before.before.before.before.before
 
 -- the edge is one of those that the sums are known of
-drops-at-requires : tie.Need-drops-at-requires invariant-loop decreases-loop
+drops-at-requires : tie.Need-drops_at-requires invariant-loop decreases-loop
 drops-at-requires c κs =
-    let turn = c.before.before.before.before in
-    let at = turn.before.loop in
-    let start = turn.before.before.before.before.before in
-    (start.requires.1.0, start.requires.1.1.0.1.places at.k at.invariant.from turn.loop-test.true)
+    let turn = c in
+    let at = turn.loop-k in
+    let start = turn in
+    (start.requires.1.0, start.requires.1.1.0.1.places at.k at.invariant.from turn.loop-k-test.true)
 
-visit-pair-requires : tie.Need-visit-pair-requires invariant-loop decreases-loop
+visit-pair-requires : tie.Need-visit_pair-requires invariant-loop decreases-loop
 visit-pair-requires c κs =
-    let asked = c.before.before in
-    let tested = asked.before.before in
-    let read = tested.before.before in
-    let turn = read.before in
-    let at-loop = turn.before in
-    let start = at-loop.before.before.before.before in
+    let asked = c in
+    let tested = asked in
+    let read = tested in
+    let turn = read in
+    let at-loop = turn in
+    let start = at-loop in
     let half = start.args.half in
-    let joined = sym (tested.joint.ensures start.args.source.position refl) ∙ asked.before.if1.true in
-    let inv = at-loop.loop.invariant in
-    let fits = start.requires.1.1.1 at-loop.loop.k inv.from turn.loop-test.true in
-    let sums = start.requires.1.1.0.1.sums at-loop.loop.k inv.from turn.loop-test.true in
-    let kept = asked.drops-at.result in (
+    let joined = sym (tested.joint.ensures start.args.source.position refl) ∙ asked.if-joint.true in
+    let inv = at-loop.loop-k.invariant in
+    let fits = start.requires.1.1.1 at-loop.loop-k.k inv.from turn.loop-k-test.true in
+    let sums = start.requires.1.1.0.1.sums at-loop.loop-k.k inv.from turn.loop-k-test.true in
+    let kept = asked.drops_at.result in (
       (inv.visited.grows.stored, start.requires.0.1),
       (
         (start.requires.1.1.0.0, joined),
         (
           λ e.
-              rw read.transition-at.ensures
+              rw read.transition_at-right.ensures
               (sums (and_left half.keeps (not kept) e)
-              (sym asked.drops-at.ensures ∙ not-true kept (and_right half.keeps (not kept) e))),
-          rw read.transition-at.ensures fits,
+              (sym asked.drops_at.ensures ∙ not-true kept (and_right half.keeps (not kept) e))),
+          rw read.transition_at-right.ensures fits,
         ),
       ),
     )
 
-same_length : tie.Need-same-length invariant-loop decreases-loop
+same_length : tie.Need-shape_of-table-in_default invariant-loop decreases-loop
 same_length c =
-    let call = c.before.before.before.before in
-    let at-loop = call.before.before.before.before.before.before.before.before.before in
-    call.visit-pair.auto.0 ∙ at-loop.loop.invariant.visited.grows.long
+    let call = c in
+    let at-loop = call in
+    call.visit_pair.auto.table ∙ at-loop.loop-k.invariant.visited.grows.long
 
-returns : tie.Need-returns invariant-loop decreases-loop
+returns : tie.Need-returns-in_default invariant-loop decreases-loop
 returns c =
-    let call = c.before.before.before.before in
-    let read = call.before.before.before.before.before.before.before in
-    let turn = read.before in
-    let a = turn.before.before.before.before.before.args in
-    passed_overflows a.edges.first a.edges.end (wanted a.source a.left a.index.now) turn.loop-test.true
-    turn.before.loop.invariant
-    (rw (c.enum_told.given.1, read.transition-at.ensures) at call.visit-pair.ensures)
+    let call = c in
+    let read = call in
+    let turn = read in
+    let a = turn.args in
+    passed_overflows a.edges.first a.edges.end (wanted a.source a.left a.index.now) turn.loop-k-test.true
+    turn.loop-k.invariant
+    (rw (c.in_default.is, read.transition_at-right.ensures) at call.visit_pair.ensures)
 
-add-k : tie.Need-overflow-add-k invariant-loop decreases-loop
+add-k : tie.Need-overflow_add-k invariant-loop decreases-loop
 add-k c =
-    let start = c.before.before.before.before.before.before.before.before.before in
+    let start = c in
     omega (arith, start.well_formed.1.1.1.1.1.1.0)
 
-loop-less : tie.Need-loop-smaller invariant-loop decreases-loop
+loop-less : tie.Need-loop-k-smaller invariant-loop decreases-loop
 loop-less c = omega arith
 
-loop-again : tie.Need-loop-preserved invariant-loop decreases-loop
+loop-again : tie.Need-loop-k-preserved invariant-loop decreases-loop
 loop-again c =
-    let tested = c.before in
-    let read = tested.before.before in
-    let turn = read.before in
-    let inv = turn.before.loop.invariant in
-    let a = turn.before.before.before.before.before.args in
-    passed-next a.edges.first a.edges.end (wanted a.source a.left a.index.now) turn.loop-test.true inv
-    (⊎_elim (λ w. rw (w.10, w.11) (rw (w.8.given.1, read.transition-at.ensures) at w.4.ensures))
+    let tested = c in
+    let read = tested in
+    let turn = read in
+    let inv = turn.loop-k.invariant in
+    let a = turn.args in
+    passed-next a.edges.first a.edges.end (wanted a.source a.left a.index.now) turn.loop-k-test.true inv
+    (⊎_elim (λ w. rw (w.table-is, w.m-is) (rw (w.in-Count.is, read.transition_at-right.ensures) at w.visit_pair.ensures))
     (λ w.
-    let apart = rw read.transition-at.ensures at (sym (tested.joint.ensures a.source.position refl) ∙ w.0.left) in
-    rw (w.1, w.2) (completes_none inv.visited.grows.stored (λ k v. not_both _ v.0 apart)))
-    c.if1.branch)
+    let apart = rw read.transition_at-right.ensures at (sym (tested.joint.ensures a.source.position refl) ∙ w.if-joint.false) in
+    rw (w.table-is, w.m-is) (completes_none inv.visited.grows.stored (λ k v. not_both _ v.0 apart)))
+    c.if-joint.branch-raw)
 
-same-length-2 : tie.Need-same-length-2 invariant-loop decreases-loop
-same-length-2 c = c.before.loop.invariant.visited.grows.long
+same-length-2 : tie.Need-shape_of-table invariant-loop decreases-loop
+same-length-2 c = c.loop-k.invariant.visited.grows.long
 
-returns-2 : tie.Need-returns-2 invariant-loop decreases-loop
+returns-2 : tie.Need-returns invariant-loop decreases-loop
 returns-2 c =
-    let a = c.before.before.before.before.before.args in
-    passed-all a.edges.first a.edges.end (wanted a.source a.left a.index.now) c.loop-test.false
-    c.before.loop.invariant
+    let a = c.args in
+    passed-all a.edges.first a.edges.end (wanted a.source a.left a.index.now) c.loop-k-test.false
+    c.loop-k.invariant
 
-pub visit-edges-spec : {M : Type 1} → statement M
-visit-edges-spec =
+pub visit_edges_spec : {M : Type 1} → statement M
+visit_edges_spec =
     tie.close
     (tie.spec
     invariant-loop

@@ -32,28 +32,28 @@ module _ (start : tie.Start) where
   halves : (size : ℕ) → joined_to start.args.half size start.args.left.target.state start.args.right.target
       ≡ moved_to s.position size start.args.left.target start.args.right.target
   halves size =
-      both_halves s.position start.args.half size start.args.left.target start.args.right.target start.pre.1.0.0
+      both_halves s.position start.args.half size start.args.left.target start.args.right.target start.requires.1.0.0
 
   half_fits : (size : ℕ) → size ∈ sizes_after 6 s.room s.position.history start.args.left.kind start.args.right.kind
       → Fits s.radix (joined_to start.args.half size start.args.left.target.state start.args.right.target)
-  half_fits size m = rw (halves size) (start.pre.1.1.1 start.pre.1.0.1 size m)
+  half_fits size m = rw (halves size) (start.requires.1.1.1 start.requires.1.0.1 size m)
 
   first_fits : (size : ℕ) → size ≡ first_size 6 s.position.history start.args.left.kind start.args.right.kind
       → Fits s.radix (joined_to start.args.half size start.args.left.target.state start.args.right.target)
   first_fits size e = half_fits size (rw e (first-size s.radix s.room s.position start.args.left start.args.right))
 
-key-after-requires : tie.Need-key-after-requires
+key-after-requires : tie.Need-key_after-key-requires
 key-after-requires c κs =
     let start = c.before.before.before.before.before.before in
-    ((start.requires.0.1.sized, first_fits start c.size-after.result c.size-after.ensures), start.requires.1.1.0)
+    ((start.requires.0.1.sized, first_fits start c.size_after-size.result c.size_after-size.ensures), start.requires.1.1.0)
 
 visit-requires : tie.Need-visit-requires
 visit-requires c κs =
-    let made = c.before in
-    let start = made.before.before.before.before.before.before.before in
+    let made = c in
+    let start = made.before.before.before.before.before.before.before.before in
     let keyed = start.requires.0.1 in
-    let fits = first_fits start made.before.size-after.result made.before.size-after.ensures in
-    (start.requires.0.0, keyed_below keyed fits made.key-after.ensures, keyed_few keyed)
+    let fits = first_fits start made.size_after-size.result made.size_after-size.ensures in
+    (start.requires.0.0, keyed_below keyed fits made.key_after-key.ensures, keyed_few keyed)
 
 -- the first visit is of the key of the first size
 module _ (c : tie.After-visit) where
@@ -65,121 +65,121 @@ module _ (c : tie.After-visit) where
 
   first : let size = first_size 6 a.position.history begun.args.left.kind begun.args.right.kind in
       Visited a.keys (λ k. k ≡ key_after a.radix a.room a.position begun.args.left begun.args.right size)
-      begun.args.n begun.args.table.now c.visit.result c.visit.new.0
+      begun.args.n begun.args.table.now c.visit.result c.visit.new.table
   first =
-      let made = c.before.before in
+      let made = c in
       let e =
-      made.key-after.ensures
-      ∙ ap (key_of a.radix) (halves begun made.before.size-after.result)
-      ∙ ap (key_after a.radix a.room a.position begun.args.left begun.args.right) made.before.size-after.ensures in
-      visited_as a.keys begun.args.n begun.args.table.now c.visit.result c.visit.new.0
+      made.key_after-key.ensures
+      ∙ ap (key_of a.radix) (halves begun made.size_after-size.result)
+      ∙ ap (key_after a.radix a.room a.position begun.args.left begun.args.right) made.size_after-size.ensures in
+      visited_as a.keys begun.args.n begun.args.table.now c.visit.result c.visit.new.table
       (λ k d. d ∙ e) (λ k d. d ∙ sym e) c.visit.ensures
 
-same_length : tie.Need-same-length
-same_length c = c.before.before.before.before.visit.auto.0
+same_length : tie.Need-shape_of-table-in_default
+same_length c = c.visit.auto.table
 
-returns : tie.Need-returns
+returns : tie.Need-returns-in_default
 returns c =
-    let call = c.before.before.before.before in
+    let call = c.before.before.before in
     let s = a call in
     let args = (begun call).args in
     overflows_as (first_key s.radix s.room s.position args.left args.right (begun call).requires.1.0.1)
-    (visited_full s.keys _ args.n args.table.now call.visit.result call.visit.new.0 (first call) c.enum_told.given.1)
+    (visited_full s.keys _ args.n args.table.now call.visit.result call.visit.new.table (first call) c.in_default.is)
 
 -- it found room
-module _ (c : tie.After-also-seen) where
-  abbrev told : tie.After-known-told
+module _ (c : tie.After-also_seen) where
+  abbrev told : tie.In-Count
   told = c.before.before.before
 
   abbrev call : tie.After-visit
-  call = told.before.before.before.before.before
+  call = told.before.before.before
 
   done : let s = a call in
       let args = (begun call).args in
       let size = first_size 6 s.position.history args.left.kind args.right.kind in
       Completes s.keys (λ k. k ≡ key_after s.radix s.room s.position args.left args.right size) args.n
-      args.table.now told.before.m.given.0.0 call.visit.last.0
+      args.table.now told.in-Count.m call.visit.new.table
   done =
       let args = (begun call).args in
-      visited-all (a call).keys _ args.n args.table.now call.visit.result call.visit.last.0 (first call)
-      told.before.m.given.0.0 told.before.m.given.1
+      visited-all (a call).keys _ args.n args.table.now call.visit.result call.visit.new.table (first call)
+      told.in-Count.m told.in-Count.is
 
   -- whether a number seen before is tried
   tried : let s = a call in
       let args = (begun call).args in
-      (s.room && not (eqb call.before.before.before.size-after.result s.position.history) && c.also-seen.result)
+      (s.room && not (eqb call.size_after-size.result s.position.history) && c.also_seen.result)
       ≡ seen_too s.radix s.room s.position args.left args.right
   tried =
       let s = a call in
       let args = (begun call).args in
       let size = first_size 6 s.position.history args.left.kind args.right.kind in
-      ap (λ (n : ℕ). s.room && not (eqb n s.position.history) && c.also-seen.result) call.before.before.before.size-after.ensures
-      ∙ ap (λ (b : Bool). s.room && not (eqb size s.position.history) && b) c.also-seen.ensures
+      ap (λ (n : ℕ). s.room && not (eqb n s.position.history) && c.also_seen.result) call.size_after-size.ensures
+      ∙ ap (λ (b : Bool). s.room && not (eqb size s.position.history) && b) c.also_seen.ensures
 
-key-after-requires-2 : tie.Need-key-after-requires-2
+key-after-requires-2 : tie.Need-key_after-seen-requires
 key-after-requires-2 c κs =
     let asked = c.before in
     let start = begun (call asked) in
     let s = a (call asked) in
-    let seen = sym (tried asked) ∙ c.if1.true in (
+    let seen = sym (tried asked) ∙ c.if-source-size.true in (
       (
-        start.pre.0.1.sized,
+        start.requires.0.1.sized,
         half_fits start s.position.history
             (seen_size s.radix s.room s.position start.args.left start.args.right seen),
       ),
-      start.pre.1.1.0,
+      start.requires.1.1.0,
     )
 
-visit-requires-2 : tie.Need-visit-requires-2
+visit-requires-2 : tie.Need-visit-requires-then-source-size
 visit-requires-2 c κs =
-    let made = c.before in
-    let asked = made.before.before in
+    let made = c in
+    let asked = made.before.before.before in
     let start = begun (call asked) in
     let s = a (call asked) in
-    let keyed = start.pre.0.1 in
-    let seen = sym (tried asked) ∙ made.before.if1.true in
+    let keyed = start.requires.0.1 in
+    let seen = sym (tried asked) ∙ made.if-source-size.true in
     let fits =
     half_fits start s.position.history (seen_size s.radix s.room s.position start.args.left start.args.right seen) in
-    ((done asked).grows.stored, keyed_below keyed fits made.key-after2.ensures, keyed_few keyed)
+    ((done asked).grows.stored, keyed_below keyed fits made.key_after-seen.ensures, keyed_few keyed)
 
-same-length-2 : tie.Need-same-length-2
+same-length-2 : tie.Need-shape_of-table-then-source-size
 same-length-2 c =
-    let again = c.before.before in
-    let asked = again.before.before.before.before in
-    again.visit2.auto.0 ∙ (call asked).visit.auto.0
+    let again = c in
+    let asked = again.before.before.before.before.before.before in
+    again.visit-then-source-size.auto.table ∙ (call asked).visit.auto.table
 
-returns-2 : tie.Need-returns-2
+returns-2 : tie.Need-returns-then-source-size
 returns-2 c =
-    let again = c.before.before in
-    let made = again.before.before in
-    let test = made.before in
-    let asked = test.before in
+    let again = c in
+    let made = again in
+    let test = made in
+    let asked = test.before.before.before.before.before.before in
     let start = begun (call asked) in
     let s = a (call asked) in
     let left = start.args.left in
     let right = start.args.right in
-    let e = made.key-after2.ensures ∙ ap (key_of s.radix) (halves start s.position.history) in
-    let seen = sym (tried asked) ∙ test.if1.true in
-    visited_then s.keys again.visit2.result again.visit2.new.0
-    (first_key s.radix s.room s.position left right start.pre.1.0.1)
-    (λ k d. seen_key s.radix s.room s.position left right start.pre.1.0.1 seen k (d ∙ e))
+    let e = made.key_after-seen.ensures ∙ ap (key_of s.radix) (halves start s.position.history) in
+    let seen = sym (tried asked) ∙ test.if-source-size.true in
+    visited_then s.keys again.visit-then-source-size.result again.visit-then-source-size.new.table
+    (first_key s.radix s.room s.position left right start.requires.1.0.1)
+    (λ k d. seen_key s.radix s.room s.position left right start.requires.1.0.1 seen k (d ∙ e))
     (λ k w. ⊎_elim inl (λ d. inr (d ∙ sym e)) (either_key s.radix s.room s.position left right k w))
-    (done asked) again.visit2.ensures
+    (done asked) again.visit-then-source-size.ensures
 
-same-length-3 : tie.Need-same-length-3
-same-length-3 c = (call c.before).visit.kept.0
+same-length-3 : tie.Need-shape_of-table
+same-length-3 c = (call c.before).visit.auto.table
 
-returns-3 : tie.Need-returns-3
+returns-3 : tie.Need-returns
 returns-3 c =
     let asked = c.before in
     let start = begun (call asked) in
     let s = a (call asked) in
-    let alone = sym (tried asked) ∙ c.if1.false in
-    completes_as (first_key s.radix s.room s.position start.args.left start.args.right start.pre.1.0.1)
+    let alone = sym (tried asked) ∙ c.if-source-size.false in
+    completes_as (first_key s.radix s.room s.position start.args.left start.args.right start.requires.1.0.1)
     (first-key_alone s.radix s.room s.position start.args.left start.args.right alone) (done asked)
 
-pub visit-pair-spec : {M : Type 1} → statement M
-visit-pair-spec =
+pub visit_pair_spec : {M : Type 1} → statement M
+visit_pair_spec =
     tie.close
     (tie.spec
     (λ c κs. search rules)

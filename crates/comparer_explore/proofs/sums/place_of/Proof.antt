@@ -14,5 +14,7 @@ returns c =
     let n = c.args.others in
     rw (one-mul (2 ^ (3 * n))) (mod-eq_of_lt (pow-lt {i = 3 * n} {j = 32} (omega (arith, c.requires)))) ∙ place_power n
 
-pub place-of-spec : {M : Type 1} → statement M
-place-of-spec = tie.close (tie.spec (λ c. search rules) (λ c. search rules) (λ c. search rules) returns)
+pub place_of_spec : {M : Type 1} → statement M
+place_of_spec =
+    tie.close
+    (tie.spec (λ c. search rules) (λ c. search rules) (λ c. search rules) returns)

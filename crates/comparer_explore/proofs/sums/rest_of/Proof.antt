@@ -25,50 +25,50 @@ module _ (start : tie.Start) where
   x = get_or start.args.p.partners at 0
 
   used : at < start.args.radix.registers
-  used = omega (arith, start.pre.1.1, start.pre.1.2)
+  used = omega (arith, start.requires.1.1, start.requires.1.2)
 
   digit : x < partner_base
-  digit = partner-digit start.pre.0.0 start.pre.0.1 at used
+  digit = partner-digit start.requires.0.0 start.requires.0.1 at used
 
   place : others + suc at ≡ length (partners_in start.args.radix start.args.p)
-  place = omega (arith, used-length start.pre.0.0 start.pre.0.1, start.pre.1.1, start.pre.1.2)
+  place = omega (arith, used-length start.requires.0.0 start.requires.0.1, start.requires.1.1, start.requires.1.2)
 
   few : x * place_of others ≤ added_by x (partners_in start.args.radix start.args.p)
   few =
-      rw (partner-at start.pre.0.0 start.pre.0.1 at used) at
+      rw (partner-at start.requires.0.0 start.requires.0.1 at used) at
       (added-least at others (partners_in start.args.radix start.args.p) place)
 
   all : added_by x (partners_in start.args.radix start.args.p) ≤ word_of (partners_in start.args.radix start.args.p)
   all = added-most x (partners_in start.args.radix start.args.p)
 
-mul-part : tie.Need-overflow-mul-part
+mul-part : tie.Need-overflow_mul-part
 mul-part c =
     let start = c.before.before.before in
-    let small : x start * c.place_of.result < word_limit =
-    rw c.place_of.ensures (omega (arith, few start, all start, word_small start.requires.0.0 start.requires.0.1)) in
+    let small : x start * c.place_of-place.result < word_limit =
+    rw c.place_of-place.ensures (omega (arith, few start, all start, word_small start.requires.0.0 start.requires.0.1)) in
     search (rules, small)
 
-mul-adds : tie.Need-overflow-mul-adds
+mul-adds : tie.Need-offset_bounds-adds-x
 mul-adds c = let h = digit c.before.before.before.before in search (rules, h)
 
-array-read-adds : tie.Need-array-read-adds
+array-read-adds : tie.Need-bounds-adds-x
 array-read-adds c = digit c.before.before.before.before
 
-sub-adds : tie.Need-overflow-sub-adds
+sub-adds : tie.Need-overflow_sub-adds
 sub-adds c =
     let start = c.before.before.before.before in
-    let h : x start * c.before.place_of.result ≤ get_or start.args.sums.adds (x start) 0 =
-    rw (c.before.place_of.ensures, start.requires.1.0.adds.each (x start) (digit start)) (few start) in
+    let h : x start * c.place_of-place.result ≤ get_or start.args.sums.adds (x start) 0 =
+    rw (c.place_of-place.ensures, start.requires.1.0.adds.each (x start) (digit start)) (few start) in
     search (rules, h)
 
-array-write-adds : tie.Need-array-write-adds
+array-write-adds : tie.Need-bounds-adds-x-2
 array-write-adds c = digit c.before.before.before.before
 
-sub-t15 : tie.Need-overflow-sub-t15
+sub-t15 : tie.Need-overflow_sub-result
 sub-t15 c =
     let start = c.before.before.before.before.before in
-    let h : x start * c.before.before.place_of.result ≤ start.args.sums.word =
-    rw (c.before.before.place_of.ensures, start.requires.1.0.word) (omega (arith, few start, all start)) in
+    let h : x start * c.place_of-place.result ≤ start.args.sums.word =
+    rw (c.place_of-place.ensures, start.requires.1.0.word) (omega (arith, few start, all start)) in
     search (rules, h)
 
 returns : tie.Need-returns
@@ -82,7 +82,7 @@ returns c =
       small = λ b h.
           let most =
           rest-most l a.sums.adds start.requires.1.0.adds (x start)
-          (get_or a.sums.adds (x start) 0 - x start * c.before.before.place_of.result) (digit start) (omega arith) b h in
+          (get_or a.sums.adds (x start) 0 - x start * c.place_of-place.result) (digit start) (omega arith) b h in
           omega (arith, most, word_small start.requires.0.0 start.requires.0.1);
       sum = λ b h.
           let sum =
@@ -91,11 +91,11 @@ returns c =
           (omega (arith, start.requires.1.1))
           (place start) (rw own (digit start)) b h) in
           let taken = rejoined-take a.a b 1 a.radix.registers a.p.partners in
-          rw (c.before.before.place_of.ensures, taken, start.requires.1.0.word) sum;
+          rw (c.place_of-place.ensures, taken, start.requires.1.0.word) sum;
     }
 
-pub rest-of-spec : {M : Type 1} → statement M
-rest-of-spec =
+pub rest_of_spec : {M : Type 1} → statement M
+rest_of_spec =
     tie.close
     (tie.spec
     (λ c. search rules)

@@ -57,19 +57,19 @@ module _ {l : List ℕ} {n word place : ℕ} {adds : List ℕ} where
       let same = get_or-set_same adds x (get_or adds x 0 + x * place) 0 (omega (arith, f.adds_are.long)) in
       omega (arith, more, same, added-most x (drop (j - 1) l))
 
-abbrev invariant-loop : tie.invariant-loop
+abbrev invariant-loop : tie.invariant-loop-i
 invariant-loop partners adds₀ word₀ place₀ i₀ adds word place i = From (take i₀ partners) i₀ word place adds i
 
-abbrev decreases-loop : tie.decreases-loop
+abbrev decreases-loop : tie.decreases-loop-i
 decreases-loop partners adds₀ word₀ place₀ i₀ adds word place i = i
 
 empty : 0 ≡ word_of []
 unfolding value
 empty = refl
 
-loop-holds : tie.Need-loop-init invariant-loop decreases-loop
+loop-holds : tie.Need-loop-i-init invariant-loop decreases-loop
 loop-holds c =
-    let start = c.before in
+    let start = c in
     let a = start.args in
     let l = partners_in a.radix a.p in
     let none = drop_of_length-le l {i = a.radix.registers} (omega (arith, used-length start.requires.0 start.requires.1)) in
@@ -81,110 +81,110 @@ loop-holds c =
     }
 
 -- the register before the last one passed
-module _ (c : tie.In-loop invariant-loop decreases-loop) where
+module _ (at : tie.At-loop-i invariant-loop decreases-loop) (some : 0 < at.loop-i.i) where
   abbrev start : tie.Start invariant-loop decreases-loop
-  start = c.before.before.before
+  start = at.before.before
 
   abbrev l : List ℕ
   l = partners_in start.args.radix start.args.p
 
   abbrev i : ℕ
-  i = c.before.loop.i - 1
+  i = at.loop-i.i - 1
 
   abbrev x : ℕ
   x = get_or start.args.p.partners i 0
 
   here : i < start.args.radix.registers
-  here = omega (arith, c.before.loop.invariant.few, c.loop-test.true)
+  here = omega (arith, at.loop-i.invariant.few, some)
 
   own : get_or l i 0 ≡ x
-  own = partner-at start.pre.0 start.pre.1 i here
+  own = partner-at start.requires.0 start.requires.1 i here
 
   digit : x < partner_base
-  digit = partner-digit start.pre.0 start.pre.1 i here
+  digit = partner-digit start.requires.0 start.requires.1 i here
 
   long : length l ≡ start.args.radix.registers
-  long = used-length start.pre.0 start.pre.1
+  long = used-length start.requires.0 start.requires.1
 
-  word : c.before.loop.word + x * c.before.loop.place ≡ word_of (drop i l)
+  word : at.loop-i.word + x * at.loop-i.place ≡ word_of (drop i l)
   word =
-      subst (λ (y : ℕ). c.before.loop.word + y * c.before.loop.place ≡ word_of (drop i l)) own
-      (from-word c.before.loop.i c.before.loop.invariant c.loop-test.true long)
+      subst (λ (y : ℕ). at.loop-i.word + y * at.loop-i.place ≡ word_of (drop i l)) own
+      (from-word at.loop-i.i at.loop-i.invariant some long)
 
-  added : get_or c.before.loop.adds x 0 + x * c.before.loop.place ≤ word_of (drop i l)
+  added : get_or at.loop-i.adds x 0 + x * at.loop-i.place ≤ word_of (drop i l)
   added =
-      subst (λ (y : ℕ). get_or c.before.loop.adds y 0 + y * c.before.loop.place ≤ word_of (drop i l)) own
-      (from-added c.before.loop.i c.before.loop.invariant c.loop-test.true long
+      subst (λ (y : ℕ). get_or at.loop-i.adds y 0 + y * at.loop-i.place ≤ word_of (drop i l)) own
+      (from-added at.loop-i.i at.loop-i.invariant some long
       (subst (λ (y : ℕ). y < partner_base) (sym own) digit))
 
-  adds : AddsOf (drop i l) (set c.before.loop.adds x (get_or c.before.loop.adds x 0 + x * c.before.loop.place))
+  adds : AddsOf (drop i l) (set at.loop-i.adds x (get_or at.loop-i.adds x 0 + x * at.loop-i.place))
   adds =
       subst
       (λ (y : ℕ).
-      AddsOf (drop i l) (set c.before.loop.adds y (get_or c.before.loop.adds y 0 + y * c.before.loop.place))) own
-      (from-adds c.before.loop.i c.before.loop.invariant c.loop-test.true long
+      AddsOf (drop i l) (set at.loop-i.adds y (get_or at.loop-i.adds y 0 + y * at.loop-i.place))) own
+      (from-adds at.loop-i.i at.loop-i.invariant some long
       (subst (λ (y : ℕ). y < partner_base) (sym own) digit))
 
   small : word_of (drop i l) < word_limit
-  small = omega (arith, word-drop i l, word_small start.pre.0 start.pre.1)
+  small = omega (arith, word-drop i l, word_small start.requires.0 start.requires.1)
 
-array-read-x : tie.Need-array-read-x invariant-loop decreases-loop
-array-read-x c = omega (arith, here c, (start c).requires.0.registers, (start c).requires.1.long)
+array-read-x : tie.Need-bounds-partners-i invariant-loop decreases-loop
+array-read-x c = omega (arith, here c.before c.loop-i-test.true, (start c.before c.loop-i-test.true).requires.0.registers, (start c.before c.loop-i-test.true).requires.1.long)
 
-mul-part : tie.Need-overflow-mul-part invariant-loop decreases-loop
-mul-part c = let h : x c * c.before.loop.place < word_limit = omega (arith, word c, small c) in search (rules, h)
+mul-part : tie.Need-overflow_mul-part invariant-loop decreases-loop
+mul-part c = let h : x c.before c.loop-i-test.true * c.loop-i.place < word_limit = omega (arith, word c.before c.loop-i-test.true, small c.before c.loop-i-test.true) in search (rules, h)
 
-add-word : tie.Need-overflow-add-word invariant-loop decreases-loop
+add-word : tie.Need-overflow_add-word invariant-loop decreases-loop
 add-word c =
-    let h : c.before.loop.word + x c * c.before.loop.place < word_limit = omega (arith, word c, small c) in
+    let h : c.loop-i.word + x c.before c.loop-i-test.true * c.loop-i.place < word_limit = omega (arith, word c.before c.loop-i-test.true, small c.before c.loop-i-test.true) in
     search (rules, h)
 
-mul-adds : tie.Need-overflow-mul-adds invariant-loop decreases-loop
-mul-adds c = let h = digit c in search (rules, h)
+mul-adds : tie.Need-offset_bounds-adds-x invariant-loop decreases-loop
+mul-adds c = let h = digit c.before c.loop-i-test.true in search (rules, h)
 
-array-read-adds : tie.Need-array-read-adds invariant-loop decreases-loop
-array-read-adds c = digit c
+array-read-adds : tie.Need-bounds-adds-x invariant-loop decreases-loop
+array-read-adds c = digit c.before c.loop-i-test.true
 
-add-adds : tie.Need-overflow-add-adds invariant-loop decreases-loop
+add-adds : tie.Need-overflow_add-adds invariant-loop decreases-loop
 add-adds c =
-    let h : get_or c.before.loop.adds (x c) 0 + x c * c.before.loop.place < word_limit = omega (arith, added c, small c) in
+    let h : get_or c.loop-i.adds (x c.before c.loop-i-test.true) 0 + x c.before c.loop-i-test.true * c.loop-i.place < word_limit = omega (arith, added c.before c.loop-i-test.true, small c.before c.loop-i-test.true) in
     search (rules, h)
 
-array-write-adds : tie.Need-array-write-adds invariant-loop decreases-loop
-array-write-adds c = digit c
+array-write-adds : tie.Need-bounds-adds-x-in-loop-i invariant-loop decreases-loop
+array-write-adds c = digit c.before c.loop-i-test.true
 
 -- what the register before counts
-place-next : (c : tie.In-loop invariant-loop decreases-loop)
-    → c.before.loop.place * partner_base ≡ place_of ((start c).args.radix.registers - i c)
-place-next c = from_place c.before.loop.i c.before.loop.invariant c.loop-test.true
+place-next : (c : tie.In-loop-i invariant-loop decreases-loop)
+    → c.loop-i.place * partner_base ≡ place_of ((start c.before c.loop-i-test.true).args.radix.registers - i c.before c.loop-i-test.true)
+place-next c = from_place c.loop-i.i c.loop-i.invariant c.loop-i-test.true
 
-mul-place : tie.Need-overflow-mul-place invariant-loop decreases-loop
+mul-place : tie.Need-overflow_mul-place invariant-loop decreases-loop
 mul-place c =
-    let n = (start c).args.radix.registers in
-    let h : c.before.loop.place * partner_base ≤ word_limit =
-    omega (arith, place-next c, place-small (n - i c) (omega (arith, (start c).requires.0.registers))) in
+    let n = (start c.before c.loop-i-test.true).args.radix.registers in
+    let h : c.loop-i.place * partner_base ≤ word_limit =
+    omega (arith, place-next c, place-small (n - i c.before c.loop-i-test.true) (omega (arith, (start c.before c.loop-i-test.true).requires.0.registers))) in
     search (rules, h)
 
-loop-less : tie.Need-loop-smaller invariant-loop decreases-loop
-loop-less c = omega (arith, c.loop-test.true)
+loop-less : tie.Need-loop-i-smaller invariant-loop decreases-loop
+loop-less c = omega (arith, c.loop-i-test.true)
 
-loop-again : tie.Need-loop-preserved invariant-loop decreases-loop
+loop-again : tie.Need-loop-i-preserved invariant-loop decreases-loop
 loop-again c =
-    record { few = omega (arith, here c); place_is = place-next c; word_is = word c; adds_are = adds c }
+    record { few = omega (arith, here c.before c.loop-i-test.true); place_is = place-next c; word_is = word c.before c.loop-i-test.true; adds_are = adds c.before c.loop-i-test.true }
 
 returns : tie.Need-returns invariant-loop decreases-loop
 returns c =
-    let inv = c.before.loop.invariant in
-    let none : c.before.loop.i ≡ 0 = omega (arith, c.loop-test.false) in
-    let a = c.before.before.before.args in
+    let inv = c.loop-i.invariant in
+    let none : c.loop-i.i ≡ 0 = omega (arith, c.loop-i-test.false) in
+    let a = c.args in
     let l = partners_in a.radix a.p in
     record {
       word = inv.word_is ∙ ap (λ (j : ℕ). word_of (drop j l)) none;
-      adds = subst (λ (j : ℕ). AddsOf (drop j l) c.before.loop.adds) none inv.adds_are;
+      adds = subst (λ (j : ℕ). AddsOf (drop j l) c.loop-i.adds) none inv.adds_are;
     }
 
-pub sums-of-spec : {M : Type 1} → statement M
-sums-of-spec =
+pub sums_of_spec : {M : Type 1} → statement M
+sums_of_spec =
     tie.close
     (tie.spec
     invariant-loop

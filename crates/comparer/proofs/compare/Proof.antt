@@ -6,34 +6,34 @@ use Rattle.comparer.proofs.Outcomes.{unread, read-compared}
 use Rattle.comparer.proofs.compare.Statement.{statement}
 use Rattle.comparer.proofs.compare.Tie as tie
 
-returns : tie.Need-returns
+returns : tie.Need-returns-in-Refused
 returns c =
-    let read = c.before.before.before in
-    let a = read.before.before.before.before.args in
-    unread _ a.file.now a.table.now a.certificate.now (rw read.read-task.ensures at c.before.answer.given.1)
+    let read = c in
+    let a = read.args in
+    unread _ a.file.now a.table.now a.certificate.now (rw read.read_task-read.ensures at c.in-Refused.is)
 
-of-requires : tie.Need-of-requires
+of-requires : tie.Need-of-index-requires
 of-requires c κs =
-    let read = c.before.before in
-    let file = read.before.before.before.before.args.file.now in
-    let answered = rw read.read-task.ensures at c.enum_told.given.1 in
-    rw read.read-task.ensures (record { valid = read-valid file answered; tags = read-tags file answered })
+    let read = c in
+    let file = read.args.file.now in
+    let answered = rw read.read_task-read.ensures at c.in_default.is in
+    rw read.read_task-read.ensures (record { valid = read-valid file answered; tags = read-tags file answered })
 
-compare-indexed-requires : tie.Need-compare-indexed-requires
-compare-indexed-requires c κs = (index_of c.before.before.before.of.ensures).index
+compare-indexed-requires : tie.Need-compare_indexed-requires
+compare-indexed-requires c κs = (index_of c.of-index.ensures).index
 
-returns-2 : tie.Need-returns-2
+returns-2 : tie.Need-returns
 returns-2 c =
-    let compared = c.before.before.before.before in
-    let made = compared.before.before.before.before in
-    let read = made.before.before.before in
-    let a = read.before.before.before.before.args in
-    let h = index_of made.of.ensures in
-    read-compared _ a.file.now a.table.now a.certificate.now (rw read.read-task.ensures at made.before.enum_told.given.1)
-    (rw (h.task, h.game, read.read-task.ensures) at compared.compare-indexed.ensures)
+    let compared = c in
+    let made = compared in
+    let read = made in
+    let a = read.args in
+    let h = index_of made.of-index.ensures in
+    read-compared _ a.file.now a.table.now a.certificate.now (rw read.read_task-read.ensures at made.in_default.is)
+    (rw (h.task, h.game, read.read_task-read.ensures) at compared.compare_indexed.ensures)
 
-pub compare-spec : {M : Type 1} → statement M
-compare-spec =
+pub compare_spec : {M : Type 1} → statement M
+compare_spec =
     tie.close
     (tie.spec
     (λ c κs. search rules)

@@ -5,35 +5,35 @@ use Rattle.comparer.proofs.Outcomes.{too_many, all_found, found-judged}
 use Rattle.comparer.proofs.compare_indexed.Statement.{statement}
 use Rattle.comparer.proofs.compare_indexed.Tie as tie
 
-returns : tie.Need-returns
+returns : tie.Need-returns-in_default
 returns c =
-    let refused = c.before.before in
-    let told = refused.before.before in
-    let explored = told.before.before.before.before in
-    let a = explored.before.before.before.before.args in
+    let refused = c in
+    let told = refused in
+    let explored = told in
+    let a = explored.args in
     rw (refused.refuse.ensures.1, refused.refuse.ensures.0)
-    (too_many a.index.now a.certificate.now (rw told.enum_told.given.1 at explored.explore.ensures))
+    (too_many a.index.now a.certificate.now (rw told.in_default.is at explored.explore.ensures))
 
 settle-requires : tie.Need-settle-requires
 settle-requires c κs =
-    let found = c.before.before in
-    let explored = found.before.before.before.before in
-    let start = explored.before.before.before.before in
-    (start.requires, all_found start.args.index.now (rw found.n.given.1 at explored.explore.ensures))
+    let found = c in
+    let explored = found in
+    let start = explored in
+    (start.requires, all_found start.args.index.now (rw found.in-Count.is at explored.explore.ensures))
 
-returns-2 : tie.Need-returns-2
+returns-2 : tie.Need-returns
 returns-2 c =
-    let judged = c.before.before.before.before in
-    let settled = judged.before.before.before.before.before in
-    let found = settled.before.before.before in
-    let explored = found.before.before.before.before in
-    let a = explored.before.before.before.before.args in
-    found-judged a.index.now (rw found.n.given.1 at explored.explore.ensures) settled.settle.new.0 a.certificate.now
-    (settled.settle.auto.0 ∙ explored.explore.auto.1.0)
+    let judged = c in
+    let settled = judged in
+    let found = settled in
+    let explored = found in
+    let a = explored.args in
+    found-judged a.index.now (rw found.in-Count.is at explored.explore.ensures) settled.settle.new.table a.certificate.now
+    (settled.settle.auto.table ∙ explored.explore.auto.table)
     judged.judge.ensures
 
-pub compare-indexed-spec : {M : Type 1} → statement M
-compare-indexed-spec =
+pub compare_indexed_spec : {M : Type 1} → statement M
+compare_indexed_spec =
     tie.close
     (tie.spec
     (λ c κs. search rules)

@@ -7,13 +7,15 @@ use Rattle.outcome.specs.Compare.{decided}
 use Rattle.comparer.proofs.decided.Statement.{statement}
 use Rattle.comparer.proofs.decided.Tie as tie
 
-returns : tie.Need-returns
+returns : tie.Need-returns-then-rounds-eq-NEVER
 unfolding decided
-returns c = rw (eq-eqb c.before.before.args.rounds all_ones (search rules), ← c.of.ensures) refl
+returns c = rw (eq-eqb c.args.rounds all_ones (search rules), ← c.of-verdict.ensures) refl
 
-returns-2 : tie.Need-returns-2
+returns-2 : tie.Need-returns
 unfolding decided
-returns-2 c = rw (ne_eqb c.before.before.args.rounds all_ones (search rules), ← c.of2.ensures) refl
+returns-2 c = rw (ne_eqb c.args.rounds all_ones (search rules), ← c.of-verdict-2.ensures) refl
 
-pub decided-spec : {M : Type 1} → statement M
-decided-spec = tie.close (tie.spec (λ c κs. search rules) (λ c. search rules) returns (λ c κs. search rules) (λ c. search rules) returns-2)
+pub decided_spec : {M : Type 1} → statement M
+decided_spec =
+    tie.close
+    (tie.spec (λ c κs. search rules) (λ c. search rules) returns (λ c κs. search rules) (λ c. search rules) returns-2)

@@ -12,66 +12,66 @@ use Rattle.comparer.proofs.judge.Statement.{statement}
 use Rattle.comparer.proofs.judge.Tie as tie
 
 -- there is room for the entries, and they are not many
-room : (c : tie.After-certify) → let counted = c.before.before.before in
-    let start = counted.before.before.before.before.before in
+room : (c : tie.After-certify) → let counted = c in
+    let start = counted in
     (start.args.n ≤ most_positions) × (start.args.n * entry_width ≤ length start.args.table.now)
 room c =
-    let counted = c.before.before.before in
-    let start = counted.before.before.before.before.before in
+    let counted = c in
+    let start = counted in
     ranked-room start.requires.0 start.requires.1
 
-rounds-of-requires : tie.Need-rounds-of-requires
-rounds-of-requires c κs = let start = c.before.before.before.before in (ranked-start start.requires.0 start.requires.1).0
+rounds-of-requires : tie.Need-rounds_of-rounds-requires
+rounds-of-requires c κs = let start = c in (ranked-start start.requires.0 start.requires.1).0
 
-returns : tie.Need-returns
+returns : tie.Need-returns-in_default
 returns c =
-    let refused = c.before.before in
-    let told = refused.before.before in
-    let answered = told.before.before.before in
-    let certified = answered.before.before.before in
-    let counted = certified.before.before.before in
-    let start = counted.before.before.before.before.before in
+    let refused = c in
+    let told = refused in
+    let answered = told in
+    let certified = answered in
+    let counted = certified in
+    let start = counted in
     rw (refused.refuse.ensures.1, refused.refuse.ensures.0)
-    (too_long_lem start.requires.0 (rw told.enum_told.given.1 at certified.certify.ensures))
+    (too_long_lem start.requires.0 (rw told.in_default.is at certified.certify.ensures))
 
-mul-clear-from : tie.Need-overflow-mul-clear-from
+mul-clear-from : tie.Need-overflow_mul-n
 mul-clear-from c =
-    let written = c.before.before in
-    let answered = written.before.before.before in
-    let (few, fits) = room answered.before.before.before in
+    let written = c in
+    let answered = written in
+    let (few, fits) = room answered.before.before.before.before.before.before in
     omega arith
 
-clear-from-requires : tie.Need-clear-from-requires
+clear-from-requires : tie.Need-clear_from-requires
 clear-from-requires c κs =
-    let written = c.before.before in
-    let answered = written.before.before.before in
-    let certified = answered.before.before.before in
+    let written = c in
+    let answered = written in
+    let certified = answered.before.before.before.before.before.before in
     rw certified.certify.ensures.restored (room certified).1
 
 decided-requires : tie.Need-decided-requires
 decided-requires c κs =
-    let written = c.before.before.before.before.before.before in
-    let answered = written.before.before.before in
-    let (few, fits) = room answered.before.before.before in
+    let written = c in
+    let answered = written in
+    let (few, fits) = room answered.before.before.before.before.before.before.before.before.before.before in
     omega arith
 
-returns-2 : tie.Need-returns-2
+returns-2 : tie.Need-returns
 unfolding task_in
 returns-2 c =
-    let played = c.before in
-    let cleared = played.before.before.before in
-    let written = cleared.before.before.before in
-    let answered = written.before.before.before in
-    let certified = answered.before.before.before in
-    let counted = certified.before.before.before in
-    let start = counted.before.before.before.before.before in
+    let played = c in
+    let cleared = played in
+    let written = cleared in
+    let answered = written in
+    let certified = answered in
+    let counted = certified in
+    let start = counted in
     let index = start.requires.0 in
-    rw (c.decided.ensures, played.game.ensures, cleared.clear-from.ensures)
-    (judged index start.requires.1 (rw counted.before.start.ensures at counted.rounds-of.ensures ∙ (ranked-start index start.requires.1).1)
-    (rw written.written.given.1 at certified.certify.ensures))
+    rw (c.decided.ensures, played.game.ensures, cleared.clear_from.ensures)
+    (judged index start.requires.1 (rw counted.start.ensures at counted.rounds_of-rounds.ensures ∙ (ranked-start index start.requires.1).1)
+    (rw written.in-Length.is at certified.certify.ensures))
 
-pub judge-spec : {M : Type 1} → statement M
-judge-spec =
+pub judge_spec : {M : Type 1} → statement M
+judge_spec =
     tie.close
     (tie.spec
     (λ c κs. search rules)

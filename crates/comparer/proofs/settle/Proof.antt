@@ -17,62 +17,62 @@ use Rattle.comparer.proofs.settle.Statement.{statement}
 use Rattle.comparer.proofs.settle.Tie as tie
 
 -- the radix is the task's
-module _ (c : tie.After-of) where
+module _ (c : tie.After-of-radix) where
   abbrev start : tie.Start
   start = c.before.before
 
-  radix_is : c.of.result ≡ radix_of (task_in start.args.index.now)
-  radix_is = c.of.ensures
+  radix_is : c.of-radix.result ≡ radix_of (task_in start.args.index.now)
+  radix_is = c.of-radix.ensures
 
-  sized : Sized c.of.result
-  sized = subst Sized (sym radix_is) (radix_sized start.pre.0)
+  sized : Sized c.of-radix.result
+  sized = subst Sized (sym radix_is) (radix_sized start.requires.0)
 
-key-count-requires : tie.Need-key-count-requires
+key-count-requires : tie.Need-key_count-requires
 key-count-requires c κs = sized c.before
 
-put-in-order-requires : tie.Need-put-in-order-requires
+put-in-order-requires : tie.Need-put_in_order-requires
 put-in-order-requires c κs =
     let made = c.before.before in
     let f = (start made).requires.1 in
-    let count = c.key-count.ensures ∙ ap key_count (radix_is made) in (
+    let count = c.key_count.ensures ∙ ap key_count (radix_is made) in (
       subst (λ k. Stored k (start made).args.n (start made).args.table.now) (sym count) f.stored,
-      omega (arith, c.key-count.ensures, key_count-small (sized made)),
+      omega (arith, c.key_count.ensures, key_count-small (sized made)),
     )
 
-lay-out-requires : tie.Need-lay-out-requires
+lay-out-requires : tie.Need-lay_out-requires
 lay-out-requires c κs =
-    let ordered = c.before.before.before in
-    let made = ordered.before.before.before in
+    let ordered = c in
+    let made = ordered.before.before.before.before.before.before in
     let begun = start made in
-    let f = begun.pre.1 in
-    let below = in_order-below begun.pre.0 f ordered.put-in-order.ensures in (
-      omega (arith, f.room, ordered.put-in-order.auto.0),
+    let f = begun.requires.1 in
+    let below = in_order-below begun.requires.0 f ordered.put_in_order.ensures in (
+      omega (arith, f.room, ordered.put_in_order.auto.table),
       sized made,
-      subst (λ x. KeysBelow (key_count x) begun.args.n ordered.put-in-order.new.0) (sym (radix_is made)) below,
+      subst (λ x. KeysBelow (key_count x) begun.args.n ordered.put_in_order.new.table) (sym (radix_is made)) below,
     )
 
 rank-requires : tie.Need-rank-requires
 rank-requires c κs =
-    let laid = c.before.before.before in
-    let ordered = laid.before.before.before.before in
-    let made = ordered.before.before.before in
+    let laid = c in
+    let ordered = laid in
+    let made = ordered.before.before.before.before.before.before.before.before.before.before in
     let begun = start made in
     let n = begun.args.n in
-    let x = ordered.put-in-order.new.0 in
+    let x = ordered.put_in_order.new.table in
     let out =
-    laid.lay-out.ensures
+    laid.lay_out.ensures
     ∙ ap (λ (r : Radix). laid_out r (keys n x) ++ drop (n * entry_width) x) (radix_is made) in
-    (begun.pre.0, laid_out_lem begun.pre.0 begun.pre.1 ordered.put-in-order.ensures out)
+    (begun.requires.0, laid_out_lem begun.requires.0 begun.requires.1 ordered.put_in_order.ensures out)
 
 returns : tie.Need-returns
 returns c =
-    let ranked = c.before.before in
-    let laid = ranked.before.before.before.before in
-    let begun = start laid.before.before.before.before.before.before.before in
-    all-ranked begun.pre.0 _ begun.pre.1.counted ranked.rank.ensures
+    let ranked = c in
+    let laid = ranked in
+    let begun = start laid.before.before.before.before.before.before.before.before.before.before.before.before.before in
+    all-ranked begun.requires.0 _ begun.requires.1.counted ranked.rank.ensures
 
-pub settle-spec : {M : Type 1} → statement M
-settle-spec =
+pub settle_spec : {M : Type 1} → statement M
+settle_spec =
     tie.close
     (tie.spec
     (λ c κs. search rules)

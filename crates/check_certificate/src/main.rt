@@ -3,40 +3,50 @@
 // or `TOO LONG`.
 #![tactic(auto)]
 
+ghost use Rattle.std.specs.Prelude.{◌≤◌, ◌≡◌, IfOk, length};
+ghost use Rattle.check_certificate.specs.declared.FileRead.TheVariants.{Failed};
 ghost use Rattle.check_certificate.specs.Files.{Within};
 
 use fra::Game;
-use libc::{STDERR_FILENO, STDOUT_FILENO};
 use outcome::{Check, Verdict};
+use std::env::{Env, FillError};
+use std::fs::File;
+use std::io;
+use std::io::{Cursor, Write};
 
-fn print(text: &[u8]) {
-    io::write_all(STDOUT_FILENO, text);
+fn print(rt: &HostRuntime, text: &[u8]) -> io::Result<()> {
+    rt.write_all(text)
 }
 
-fn print_number(n: u64) {
-    print(b" ");
-    io::print_decimal(STDOUT_FILENO, n);
-    print(b"\n");
+fn print_number(rt: &HostRuntime, n: u64) -> io::Result<()> {
+    println!(rt; " {n}")
 }
 
-fn print_check(c: Check) {
+fn print_check(rt: &HostRuntime, c: Check) -> io::Result<()> {
     match c {
-        Check::Accepted { verdict, rounds } => print_accepted(verdict, rounds),
+        Check::Accepted { verdict, rounds } => print_accepted(rt, verdict, rounds),
         Check::Refused(n) => {
-            print(b"REFUSED");
-            print_number(n as u64);
+            print(rt, b"REFUSED")?;
+            print_number(rt, n as u64)
         }
     }
 }
 
-fn print_accepted(verdict: Verdict, rounds: u32) {
+fn print_accepted(rt: &HostRuntime, verdict: Verdict, rounds: u32) -> io::Result<()> {
     match verdict {
-        Verdict::Equal => print(b"ACCEPTED EQUAL"),
-        Verdict::Differ => print(b"ACCEPTED DIFFER"),
-        Verdict::Follows => print(b"ACCEPTED FOLLOWS"),
-        Verdict::FallsShort => print(b"ACCEPTED FALLS SHORT"),
+        Verdict::Equal => print(rt, b"ACCEPTED EQUAL")?,
+        Verdict::Differ => print(rt, b"ACCEPTED DIFFER")?,
+        Verdict::Follows => print(rt, b"ACCEPTED FOLLOWS")?,
+        Verdict::FallsShort => print(rt, b"ACCEPTED FALLS SHORT")?,
     }
-    print_number(rounds as u64);
+    print_number(rt, rounds as u64)
+}
+
+// The room for an argument, as for a path with the system's mark of its end.
+const LONGEST_ARGUMENT: usize = 4096;
+
+fn complain(rt: &HostRuntime, text: &[u8]) -> io::Result<()> {
+    Print::write_all(&rt.stderr(), text)
 }
 
 // The game that the certificate is checked by, or the arguments ask for none, which has been said on standard error.
@@ -46,22 +56,34 @@ enum Asked {
     Unknown,
 }
 
+// Whether the program was started with an argument i.
+fn is_there(rt: &HostRuntime, i: usize) -> bool {
+    let mut word = [0u8; LONGEST_ARGUMENT];
+    match rt.arg(i, &mut word) {
+        Err(FillError::NotPresent) => false,
+        _ => true,
+    }
+}
+
+// Whether argument i is the word that asks for the one-way game.
+fn asks_one_way(rt: &HostRuntime, i: usize) -> bool {
+    let mut word = [0u8; LONGEST_ARGUMENT];
+    match rt.arg(i, &mut word) {
+        Ok(length) => matches!(&word[..length], b"--one-way"),
+        Err(_) => false,
+    }
+}
+
 // What the arguments after the two files ask for.
-fn game_asked() -> Asked {
-    let count = os::arg_count();
-    if count < 4 {
-        return Asked::By(Game::BothAttack);
+fn game_asked(rt: &HostRuntime) -> io::Result<Asked> {
+    if !is_there(rt, 3) {
+        return Ok(Asked::By(Game::BothAttack));
     }
-    let mut word = io::buffer();
-    let length = os::arg(3, &mut word);
-    if count == 4 && check::same(&word[..length], b"--one-way") {
-        return Asked::By(Game::LeftAttacks);
+    if !is_there(rt, 4) && asks_one_way(rt, 3) {
+        return Ok(Asked::By(Game::LeftAttacks));
     }
-    io::write_all(
-        STDERR_FILENO,
-        b"check_certificate TASK CERTIFICATE [--one-way]\n",
-    );
-    Asked::Unknown
+    complain(rt, b"check_certificate TASK CERTIFICATE [--one-way]\n")?;
+    Ok(Asked::Unknown)
 }
 
 // What a file gave: so many bytes, or it could not be read, which has been said on standard error.
@@ -71,24 +93,68 @@ enum FileRead {
     Failed,
 }
 
-// Reads the file that argument i names.
-fn read_file(i: usize, out: &mut [u8]) -> FileRead
-    ensures { Within result out.new }
+// How much of an error's text says why: behind it stands the system's number in brackets.
+fn reason_length(text: &[u8]) -> usize
+    ensures { result ≤ length text.now }
 {
-    let mut path = io::buffer();
-    let length = os::arg(i, &mut path);
-    if os::errno() != 0 {
-        os::fail(b"check_certificate TASK CERTIFICATE [--one-way]");
-        return FileRead::Failed;
+    match text.iter().rposition(|b| *b == b'(') {
+        Some(at) if 0 < at => at - 1,
+        _ => text.len(),
     }
-    let fd = os::open_read(&path[..length]);
-    if fd < 0 {
-        os::fail(&path[..length]);
-        return FileRead::Failed;
+}
+
+// The room for an error's text.
+const LONGEST_TEXT: usize = 128;
+
+// Says on standard error what could not be read, and why.
+fn say_failed(rt: &HostRuntime, what: &[u8], why: io::Error) -> io::Result<FileRead>
+    ensures { IfOk result (λ r. r ≡ Failed) }
+{
+    let mut text = Cursor::new([0u8; LONGEST_TEXT]);
+    let _ = write!(text, "{why}");
+    let end = LONGEST_TEXT.min(text.position() as usize);
+    let text = text.into_inner();
+    let n = reason_length(&text[..end]);
+    complain(rt, what)?;
+    complain(rt, b": ")?;
+    complain(rt, &text[..n])?;
+    complain(rt, b"\n")?;
+    Ok(FileRead::Failed)
+}
+
+// The system's numbers for an argument that is missing, and for one that is too long.
+const INVALID_ARGUMENT: i32 = 22;
+
+const NAME_TOO_LONG: i32 = 36;
+
+// Reads the file of a path.
+fn read_path(rt: &HostRuntime, path: &[u8], out: &mut [u8]) -> io::Result<FileRead>
+    ensures { IfOk result (λ r. Within r out.new) }
+{
+    let Ok(name) = std::str::from_utf8(path) else {
+        return say_failed(rt, path, io::Error::from_raw_os_error(INVALID_ARGUMENT));
+    };
+    match File::open(rt, name) {
+        Ok(mut file) => {
+            let n = reading::read_full(&mut file, out)?;
+            Ok(FileRead::Bytes(n))
+        }
+        Err(why) => say_failed(rt, path, why),
     }
-    let n = io::read_full(fd, out);
-    libc::close(fd);
-    FileRead::Bytes(n)
+}
+
+// Reads the file that argument i names.
+fn read_file(rt: &HostRuntime, i: usize, out: &mut [u8]) -> io::Result<FileRead>
+    ensures { IfOk result (λ r. Within r out.new) }
+{
+    let mut path = [0u8; LONGEST_ARGUMENT];
+    let why = match rt.arg(i, &mut path) {
+        Ok(length) => return read_path(rt, &path[..length], out),
+        Err(FillError::NotPresent) => INVALID_ARGUMENT,
+        Err(FillError::TooLong) => NAME_TOO_LONG,
+    };
+    let usage = b"check_certificate TASK CERTIFICATE [--one-way]";
+    say_failed(rt, usage, io::Error::from_raw_os_error(why))
 }
 
 // The longest task and certificate that are read.
@@ -96,22 +162,21 @@ const LONGEST_TASK: usize = 4096;
 
 const LONGEST_CERTIFICATE: usize = 131072;
 
-fn main() {
-    let asked = game_asked();
+fn main(rt: HostRuntime) -> io::Result<()> {
+    let asked = game_asked(&rt)?;
     let Asked::By(game) = asked else {
-        return;
+        return Ok(());
     };
     let mut task = [0u8; LONGEST_TASK + 1];
     let mut certificate = [0u8; LONGEST_CERTIFICATE + 1];
-    let FileRead::Bytes(n) = read_file(1, &mut task) else {
-        return;
+    let FileRead::Bytes(n) = read_file(&rt, 1, &mut task)? else {
+        return Ok(());
     };
-    let FileRead::Bytes(m) = read_file(2, &mut certificate) else {
-        return;
+    let FileRead::Bytes(m) = read_file(&rt, 2, &mut certificate)? else {
+        return Ok(());
     };
     if LONGEST_TASK < n || LONGEST_CERTIFICATE < m {
-        print(b"TOO LONG\n");
-        return;
+        return print(&rt, b"TOO LONG\n");
     }
-    print_check(checker::check(game, &task[..n], &certificate[..m]));
+    print_check(&rt, checker::check(game, &task[..n], &certificate[..m]))
 }

@@ -2,7 +2,8 @@
 #![tactic(auto)]
 
 use fra::Game;
+use std::io;
 
-fn main() {
-    comparing::run(Game::LeftAttacks);
+fn main(rt: HostRuntime) -> io::Result<()> {
+    comparing::run(&rt, Game::LeftAttacks)
 }

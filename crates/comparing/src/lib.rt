@@ -6,9 +6,9 @@ ghost use Rattle.std.specs.Prelude.{◌≤◌};
 ghost use Rattle.text.specs.LentLine.{line_room};
 
 use fra::Game;
-use libc::{STDIN_FILENO, STDOUT_FILENO};
 use outcome::Comparison;
 use outcome::layout::ENTRY;
+use std::io;
 use text::LINE;
 
 // "a task of at most 4,096 bytes"
@@ -20,48 +20,46 @@ const ENTRIES: usize = 4000;
 const LONGEST_CERTIFICATE: usize = 64000;
 
 // Writes the first n bytes of a line.
-fn print(line: [u8; LINE], n: usize)
+fn print(rt: &impl Print, line: [u8; LINE], n: usize) -> io::Result<()>
     requires { n ≤ line_room }
 {
-    io::write_all(STDOUT_FILENO, &line[..n]);
+    rt.write_all(&line[..n])
 }
 
-fn print_line(answer: Comparison, certificate: &[u8], i: usize) {
+fn print_line(rt: &impl Print, answer: Comparison, certificate: &[u8], i: usize) -> io::Result<()> {
     let mut line = [0u8; LINE];
     let n = text::put_line(answer, certificate, i, &mut line);
-    print(line, n);
+    print(rt, line, n)
 }
 
-fn print_lines(answer: Comparison, certificate: &[u8]) {
+fn print_lines(rt: &impl Print, answer: Comparison, certificate: &[u8]) -> io::Result<()> {
     let count = text::line_count(answer, certificate);
-    let mut i = 0;
-    while i < count {
-        print_line(answer, certificate, i);
-        i += 1;
+    for i in 0..count {
+        print_line(rt, answer, certificate, i)?;
     }
+    Ok(())
 }
 
-fn print_too_long() {
+fn print_too_long(rt: &impl Print) -> io::Result<()> {
     let mut line = [0u8; LINE];
     let n = text::put_too_long(&mut line);
-    print(line, n);
+    print(rt, line, n)
 }
 
 // Compares in a lent table and buffer of these sizes.
-fn print_comparison(game: Game, task: &[u8]) {
+fn print_comparison(rt: &impl Print, game: Game, task: &[u8]) -> io::Result<()> {
     let mut table = [0u8; ENTRIES * ENTRY];
     let mut certificate = [0u8; LONGEST_CERTIFICATE];
     let answer = comparer::compare(game, task, &mut table, &mut certificate);
-    print_lines(answer, &certificate);
+    print_lines(rt, answer, &certificate)
 }
 
-// Reads the task, compares and prints.
-pub fn run(game: Game) {
+// Reads the task, compares and prints. Only a read or a write that fails is an error.
+pub fn run(rt: &(impl Input + Print), game: Game) -> io::Result<()> {
     let mut task = [0u8; LONGEST_TASK + 1];
-    let n = io::read_full(STDIN_FILENO, &mut task);
+    let n = reading::read_full(&mut rt.reader(), &mut task)?;
     if LONGEST_TASK < n {
-        print_too_long();
-        return;
+        return print_too_long(rt);
     }
-    print_comparison(game, &task[..n]);
+    print_comparison(rt, game, &task[..n])
 }

@@ -3,89 +3,88 @@
 #![tactic(auto)]
 
 use fra::{Edge, EdgeKind, Model, Position};
+use std::io;
 use task::Answer;
 
-fn print(n: u8) {
-    io::write_all(1, b" ");
-    io::print_decimal(1, n as u64);
+fn print(rt: &impl Print, n: u8) -> io::Result<()> {
+    print!(rt; " {n}")
 }
 
-fn print_kind(kind: EdgeKind) {
+fn print_kind(rt: &impl Print, kind: EdgeKind) -> io::Result<()> {
     match kind {
-        EdgeKind::Known(i) => print_pair(0, i),
-        EdgeKind::LocallyFresh(i) => print_pair(1, i),
-        EdgeKind::GloballyFresh(i) => print_pair(2, i),
+        EdgeKind::Known(i) => print_pair(rt, 0, i),
+        EdgeKind::LocallyFresh(i) => print_pair(rt, 1, i),
+        EdgeKind::GloballyFresh(i) => print_pair(rt, 2, i),
     }
 }
 
-fn print_pair(a: u8, b: u8) {
-    print(a);
-    print(b);
+fn print_pair(rt: &impl Print, a: u8, b: u8) -> io::Result<()> {
+    print(rt, a)?;
+    print(rt, b)
 }
 
-fn print_edge(e: Edge) {
-    print_pair(e.from, e.tag);
+fn print_edge(rt: &impl Print, e: Edge) -> io::Result<()> {
+    print_pair(rt, e.from, e.tag)?;
     let kind = e.kind;
-    print_kind(kind);
-    print(e.to);
+    print_kind(rt, kind)?;
+    print(rt, e.to)
 }
 
-fn print_state(m: Model, q: u8) {
+fn print_state(rt: &impl Print, m: Model, q: u8) -> io::Result<()> {
     if q < Model::STATES {
         let s = m.states[q as usize];
-        print_pair(s.set, s.mark);
+        print_pair(rt, s.set, s.mark)?;
     }
+    Ok(())
 }
 
-fn print_states(m: Model) {
-    let mut q: u8 = 0;
-    while q < m.state_count {
-        print_state(m, q);
-        q += 1;
+fn print_states(rt: &impl Print, m: Model) -> io::Result<()> {
+    for q in 0..m.state_count {
+        print_state(rt, m, q)?;
     }
+    Ok(())
 }
 
-fn print_edges(m: Model) {
-    let mut k: u8 = 0;
-    while k < m.edge_count {
-        print_edge(task_lookup::models::edge_of(m, k));
-        k += 1;
+fn print_edges(rt: &impl Print, m: Model) -> io::Result<()> {
+    for k in 0..m.edge_count {
+        print_edge(rt, task_lookup::models::edge_of(m, k))?;
     }
+    Ok(())
 }
 
-fn print_model(m: Model) {
-    print_pair(m.registers, m.state_count);
-    print_pair(m.start, m.edge_count);
-    print_states(m);
-    print_edges(m);
+fn print_model(rt: &impl Print, m: Model) -> io::Result<()> {
+    print_pair(rt, m.registers, m.state_count)?;
+    print_pair(rt, m.start, m.edge_count)?;
+    print_states(rt, m)?;
+    print_edges(rt, m)
 }
 
-fn print_position(p: Position) {
-    print_pair(p.left, p.right);
+fn print_position(rt: &impl Print, p: Position) -> io::Result<()> {
+    print_pair(rt, p.left, p.right)?;
     let partners = p.partners;
-    print_pair(partners[0], partners[1]);
-    print_pair(partners[2], partners[3]);
-    print_pair(partners[4], partners[5]);
-    print(p.history);
+    print_pair(rt, partners[0], partners[1])?;
+    print_pair(rt, partners[2], partners[3])?;
+    print_pair(rt, partners[4], partners[5])?;
+    print(rt, p.history)
 }
 
 // The longest input that is read.
 const LONGEST: usize = 131072;
 
-fn main() {
+fn main(rt: HostRuntime) -> io::Result<()> {
     let mut buffer = [0u8; LONGEST];
-    let n = io::read_full(0, &mut buffer);
+    let n = reading::read_full(&mut rt.reader(), &mut buffer)?;
     let read = task_reader::read_task(&buffer[..n]);
     let answer = read.answer;
     if let Answer::Refused(number) = answer {
-        io::write_all(1, b"REFUSED");
-        print(number);
+        rt.write_all(b"REFUSED")?;
+        print(&rt, number)?;
     } else {
-        io::write_all(1, b"READ");
+        rt.write_all(b"READ")?;
         let t = read.task;
-        print_model(t.left);
-        print_model(t.right);
-        print_position(t.start);
+        print_model(&rt, t.left)?;
+        print_model(&rt, t.right)?;
+        print_position(&rt, t.start)?;
     }
-    io::write_all(1, b"\n");
+    rt.write_all(b"\n")
 }

@@ -1,5 +1,5 @@
-// The static library: the comparer and the certificate checker for callers in C. Buffers are a pointer and a length each;
-// the answer is returned by value.
+// The comparer and the certificate checker by the names and numbers that callers in C have. The crate `exports_c` is the static
+// library: each of its exports calls the function of that name here.
 #![tactic(auto)]
 
 ghost use Rattle.std.specs.Prelude.{◌≡◌};
@@ -80,36 +80,28 @@ fn checked(game: Game, file: &[u8], certificate: &[u8]) -> Answer
 }
 
 // Compares the models of a task file.
-#[unsafe(no_mangle)]
-pub extern "C" fn nuldopa_compare(file: &[u8], table: &mut [u8], certificate: &mut [u8]) -> Answer
+pub fn nuldopa_compare(file: &[u8], table: &mut [u8], certificate: &mut [u8]) -> Answer
     ensures { Returns (compare equality file.now table.old certificate.old) result table.new certificate.new }
 {
     compared(Game::BothAttack, file, table, certificate)
 }
 
 // Checks a proposed certificate.
-#[unsafe(no_mangle)]
-pub extern "C" fn nuldopa_check(file: &[u8], certificate: &[u8]) -> Answer
+pub fn nuldopa_check(file: &[u8], certificate: &[u8]) -> Answer
     ensures { numbers_in result ≡ checked_values_of (check equality file.now certificate.now) }
 {
     checked(Game::BothAttack, file, certificate)
 }
 
 // Compares one way: only the left side attacks.
-#[unsafe(no_mangle)]
-pub extern "C" fn nuldopa_compare_one_way(
-    file: &[u8],
-    table: &mut [u8],
-    certificate: &mut [u8],
-) -> Answer
+pub fn nuldopa_compare_one_way(file: &[u8], table: &mut [u8], certificate: &mut [u8]) -> Answer
     ensures { Returns (compare one_way file.now table.old certificate.old) result table.new certificate.new }
 {
     compared(Game::LeftAttacks, file, table, certificate)
 }
 
 // Checks a proposed certificate of that comparison.
-#[unsafe(no_mangle)]
-pub extern "C" fn nuldopa_check_one_way(file: &[u8], certificate: &[u8]) -> Answer
+pub fn nuldopa_check_one_way(file: &[u8], certificate: &[u8]) -> Answer
     ensures { numbers_in result ≡ checked_values_of (check one_way file.now certificate.now) }
 {
     checked(Game::LeftAttacks, file, certificate)

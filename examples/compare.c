@@ -1,6 +1,6 @@
 /* Prints what the program `compare` prints, for the task file named on the command line, and writes the certificate's bytes
  * to a second file where one is named; after the word `--one-way` what `compare_one_way` prints. Builds in the repository's
- * folder, after `rt staticlib exports`, with
+ * folder, after `.ci/build exports_c`, with
  *
  *     gcc -std=c11 -O2 -Wall -Wextra -I include examples/compare.c -L target/staticlib -lexports -o target/compare-c
  */

@@ -1,6 +1,6 @@
 //! Prints what the program `compare` prints, for the task file named on the command line, and writes the certificate's bytes
 //! to a second file where one is named; after the word `--one-way` what `compare_one_way` prints. Builds in the repository's
-//! folder, after `rt staticlib exports`, with
+//! folder, after `.ci/build exports_c`, with
 //!
 //!     rustc --edition 2021 -O -L target/staticlib examples/compare.rs -o target/compare-rust
 //!

@@ -42,7 +42,7 @@ enum {
 
 /* The most bytes that a certificate has beside a table of so many bytes: 17 for each entry, of which spare bytes at the
  * table's end make none. A comparison of either game that is lent so many never meets NULDOPA_BUFFER_TOO_SMALL: that is
- * proved (crates/promises/specs/Promises.antt, buffer-is-enough). Where the table's length is a constant, so is this; for the
+ * proved (crates/promises/specs/Promises.antt, buffer_is_enough). Where the table's length is a constant, so is this; for the
  * length of any table that there can be, PTRDIFF_MAX at most, a size_t holds it. */
 #define NULDOPA_MOST_CERTIFICATE_BYTES(table_length) \
     ((size_t)(table_length) / NULDOPA_ENTRY_BYTES * NULDOPA_LOST_BYTES)
@@ -107,7 +107,7 @@ struct nuldopa_answer {
  *              entry does not matter. 13 * NULDOPA_MOST_POSITIONS_OF_A_SIZE bytes (44 MB) are enough for every task without
  *              a record of kind 5. Where it states the size n, sizes n to 13 can be reached, and 14 - n times as much is
  *              enough: for every task 13 * NULDOPA_MOST_POSITIONS bytes (621 MB); who lends as much never meets 11
- *              (table-is-enough). With less than 13 every task that is read meets 11
+ *              (table_is_enough). With less than 13 every task that is read meets 11
  * certificate  where the certificate goes. NULDOPA_MOST_CERTIFICATE_BYTES(table_length) are always enough. The certificate has
  *              at most 17 bytes for each position reached, at most 10 with EQUAL (length-at-most, kept-length-at-most); with
  *              less than 10 every task that has room in the table meets 12

@@ -1,4 +1,4 @@
-//! Tells cargo where the static library is: in the folder that NULDOPA_LIBRARY names, or where `rt staticlib exports`
+//! Tells cargo where the static library is: in the folder that NULDOPA_LIBRARY names, or where `.ci/build exports_c`
 //! puts it.
 use std::env;
 use std::path::{Path, PathBuf};

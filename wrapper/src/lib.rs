@@ -40,7 +40,7 @@ pub const LOST_LENGTH: usize = 17;
 
 /// The most bytes that a certificate has beside a table of so many bytes: [`LOST_LENGTH`] for each entry, of which spare bytes
 /// at the table's end make none. A comparison of either game that is lent so many never meets [`Refusal::BufferTooSmall`]:
-/// that is proved (crates/promises/specs/Promises.antt, `buffer-is-enough`).
+/// that is proved (crates/promises/specs/Promises.antt, `buffer_is_enough`).
 pub const fn most_certificate_bytes(table_length: usize) -> usize {
     // No slice is so long that this would be more than a usize holds.
     (table_length / ENTRY_LENGTH).saturating_mul(LOST_LENGTH)
@@ -54,7 +54,7 @@ pub const MOST_SEEN: u8 = 13;
 pub const MOST_POSITIONS_OF_A_SIZE: usize = 3_411_712;
 
 /// No task reaches more positions, so a table of so many entries is never too small: that is proved
-/// (crates/promises/specs/Promises.antt, `table-is-enough`).
+/// (crates/promises/specs/Promises.antt, `table_is_enough`).
 pub const MOST_POSITIONS: usize = (MOST_SEEN as usize + 1) * MOST_POSITIONS_OF_A_SIZE;
 
 /// Which side attacks, and which end marks lose at once. The functions below are those of [`Game::Equality`].

@@ -3,14 +3,14 @@ use borrow.Author.Rules.{rules}
 use Rattle.exports.proofs.answer_of.Statement.{statement}
 use Rattle.exports.proofs.answer_of.Tie as tie
 
-returns : tie.Need-returns
-returns c = rw (c.before.before.c.given.1, c.kind.ensures)
+returns : tie.Need-returns-in-Decided
+returns c = rw (c.in-Decided.is, c.kind.ensures)
 
-returns-2 : tie.Need-returns-2
-returns-2 c = rw c.before.c2.given.1
+returns-2 : tie.Need-returns-in-Refused
+returns-2 c = rw c.in-Refused.is
 
-pub answer-of-spec : {M : Type 1} → statement M
-answer-of-spec =
+pub answer_of_spec : {M : Type 1} → statement M
+answer_of_spec =
     tie.close
     (tie.spec
     (λ c. search rules)

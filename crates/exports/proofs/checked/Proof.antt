@@ -7,8 +7,9 @@ use Rattle.exports.proofs.checked.Tie as tie
 
 returns : tie.Need-returns
 returns c =
-    c.answer-of.ensures ∙ c.before.as-comparison.ensures ∙ ap checked_values_of c.before.before.check.ensures
+    c.answer_of.ensures ∙ c.as_comparison.ensures ∙ ap checked_values_of c.check.ensures
 
-pub checked-spec : {M : Type 1} → statement M
-checked-spec =
-    tie.close (tie.spec (λ c κs. search rules) (λ c κs. search rules) (λ c κs. search rules) returns)
+pub checked_spec : {M : Type 1} → statement M
+checked_spec =
+    tie.close
+    (tie.spec (λ c κs. search rules) (λ c κs. search rules) (λ c κs. search rules) returns)

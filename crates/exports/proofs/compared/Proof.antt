@@ -7,14 +7,14 @@ use Rattle.exports.proofs.compared.Tie as tie
 
 returns : tie.Need-returns
 returns c =
-    let given = c.before.before.before.before.before.compare.ensures in
+    let given = c.compare.ensures in
     record {
-      numbers = c.answer-of.ensures ∙ ap values_of given.answers;
+      numbers = c.answer_of.ensures ∙ ap values_of given.answers;
       tables = given.tables;
       certificates = given.certificates;
     }
 
-pub compared-spec : {M : Type 1} → statement M
-compared-spec =
+pub compared_spec : {M : Type 1} → statement M
+compared_spec =
     tie.close
     (tie.spec (λ c κs. search rules) (λ c κs. search rules) (λ c. search rules) (λ c. search rules) returns)

@@ -11,13 +11,15 @@ returns : tie.Need-returns-then-i-eq0
 unfolding has
 returns c = search rules
 
-returns-2 : tie.Need-returns-then-i-gt8
-returns-2 c = let a = c.args in sym (has_none a.set a.i (omega arith) (omega arith))
-
-returns-3 : tie.Need-returns
-returns-3 c = let a = c.args in sym (has_bit a.set a.i (omega arith))
+returns-2 : tie.Need-returns
+returns-2 c = let a = c.args in sym (has_bit a.set a.i (omega arith))
 
 pub has_spec : {M : Type 1} → statement M
 has_spec =
     tie.close
-    (tie.spec returns returns-2 (λ c. search rules) (λ c. search rules) returns-3)
+    (tie.spec
+    returns
+    (λ c. let a = c.args in sym (has_none a.set a.i (omega arith) (omega arith)))
+    (λ c. search rules)
+    (λ c. search rules)
+    returns-2)

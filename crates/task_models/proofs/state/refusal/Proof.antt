@@ -3,6 +3,7 @@ use Prim.Native.Nat.{◌^◌}
 use mathlib.Core.Path.{◌≡◌, sym, ◌∙◌, ap}
 use mathlib.Core.Bool.{not, ◌||◌}
 use mathlib.Core.Logic.{⊎_elim}
+use native.Mathlib.Omega.{arith}
 use lib.Dec.{ltb, leb, eqb}
 use borrow.Author.Tests.{eq-eqb, ne_eqb}
 use Rattle.task.specs.TaskFile.{state_refusal}
@@ -14,8 +15,8 @@ use Rattle.task_models.proofs.state.refusal.Tie as tie
 second : (c : tie.Joined-number-due) → let a = c.args in
     c.if-number-due.value ≡ (not (eqb a.number a.due) || leb (2 ^ a.m.registers) a.set)
 second c =
-    ⊎_elim (λ w. or_over _ (ap not (ne_eqb _ _ w.if-number-due.true)) w.value-is)
-    (λ w. or_next (ap not (eq-eqb _ _ w.if-number-due.false)) (w.value-is ∙ w.overruns.ensures))
+    ⊎_elim (λ w. or_over _ (ap not (ne_eqb c.args.number c.args.due (omega arith))) w.value-is)
+    (λ w. or_next (ap not (eq-eqb c.args.number c.args.due (omega arith))) (w.value-is ∙ w.overruns.ensures))
     c.if-number-due.branch-raw
 
 third : (c : tie.Joined-overruns) → let a = c.args in

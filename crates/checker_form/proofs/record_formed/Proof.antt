@@ -2,7 +2,7 @@
 use Prim.Native.Nat.{◌+◌, ◌*◌, ◌≤◌}
 use mathlib.Core.Path.{sym, ◌∙◌}
 use native.Mathlib.Omega.{arith}
-use lib.ListN.{length}
+use lib.ListN.{length, get_or}
 use borrow.Author.Tests.{eq-eqb, ne_eqb, not-true, not-false}
 use Rattle.listing.proofs.PositionNumbers.{record_room}
 use Rattle.checker_laws.specs.CertificateRecords.{formed_at}
@@ -23,25 +23,26 @@ shared-slice-read-if1 c =
 
 returns : tie.Need-returns-then-certificate-i
 unfolding formed_at
-returns c = rw (ne_eqb _ _ c.if-certificate-i.true)
+returns c =
+    let a = c.args in rw (ne_eqb (get_or a.certificate.now (a.i * a.records.width) 0) a.kind (omega arith))
 
 returns-2 : tie.Need-returns-then-not-legal
 unfolding formed_at
 returns-2 c =
-    let read = c.before.before in
+    let a = c.args in
     rw (
-      eq-eqb _ _ read.if-certificate-i.false,
-      ← read.position_at.ensures,
+      eq-eqb (get_or a.certificate.now (a.i * a.records.width) 0) a.kind (omega arith),
+      ← c.position_at.ensures,
       sym c.legal.ensures ∙ not-true _ c.if-not-legal.true-raw,
     )
 
 returns-3 : tie.Need-returns
 unfolding formed_at
 returns-3 c =
-    let read = c.before.before.before in
+    let a = c.args in
     rw (
-      eq-eqb _ _ read.if-certificate-i.false,
-      ← read.position_at.ensures,
+      eq-eqb (get_or a.certificate.now (a.i * a.records.width) 0) a.kind (omega arith),
+      ← c.position_at.ensures,
       sym c.legal.ensures ∙ not-false _ c.if-not-legal.false-raw,
     )
     c.rises.ensures

@@ -109,7 +109,7 @@ struct nuldopa_answer {
  *              enough: for every task 13 * NULDOPA_MOST_POSITIONS bytes (621 MB); who lends as much never meets 11
  *              (table_is_enough). With less than 13 every task that is read meets 11
  * certificate  where the certificate goes. NULDOPA_MOST_CERTIFICATE_BYTES(table_length) are always enough. The certificate has
- *              at most 17 bytes for each position reached, at most 10 with EQUAL (length-at-most, kept-length-at-most); with
+ *              at most 17 bytes for each position reached, at most 10 with EQUAL (length-at-most, kept_length-at-most); with
  *              less than 10 every task that has room in the table meets 12
  *
  * A verdict (refusal 0): the table holds the positions reached, rising by their 9 bytes (left state, right state, partners

@@ -129,7 +129,8 @@ const NAME_TOO_LONG: i32 = 36;
 
 // Reads the file of a path.
 fn read_path(rt: &HostRuntime, path: &[u8], out: &mut [u8]) -> io::Result<FileRead>
-    ensures { IfOk result (λ r. Within r out.new) }
+    ensures read { IfOk result (λ r. Within r out.new) }
+    ensures room_stays { length out.new ≡ length out.old }
 {
     let Ok(name) = std::str::from_utf8(path) else {
         return say_failed(rt, path, io::Error::from_raw_os_error(INVALID_ARGUMENT));
@@ -145,7 +146,8 @@ fn read_path(rt: &HostRuntime, path: &[u8], out: &mut [u8]) -> io::Result<FileRe
 
 // Reads the file that argument i names.
 fn read_file(rt: &HostRuntime, i: usize, out: &mut [u8]) -> io::Result<FileRead>
-    ensures { IfOk result (λ r. Within r out.new) }
+    ensures read { IfOk result (λ r. Within r out.new) }
+    ensures room_stays { length out.new ≡ length out.old }
 {
     let mut path = [0u8; LONGEST_ARGUMENT];
     let why = match rt.arg(i, &mut path) {

@@ -40,7 +40,8 @@ use Rattle.promises.proofs.CheckerPromises.{shows, rejects_exactly, accepted, ch
 
 -- The comparer: what it answers, and what it leaves in the table and in the certificate buffer, is `compare` of the bytes that it
 -- was lent, whatever they are, for the game that it is given (crates/comparer/src/lib.rt). For callers in C, a function for each
--- game: crates/exports/src/lib.rt. What the kit states of a function includes that every call ends.
+-- game (crates/exports/src/lib.rt), which an export of that name and with its clauses calls (crates/exports_c/src/lib.rt). What the
+-- kit states of a function includes that every call ends.
 pub comparer_returns_the_outcome : {M : Type 1} → compare-statement M
 comparer_returns_the_outcome = compare-met
 

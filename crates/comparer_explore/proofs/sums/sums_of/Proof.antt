@@ -139,19 +139,10 @@ add-word c =
     let h : c.loop-i.word + x c.before c.loop-i-test.true * c.loop-i.place < word_limit = omega (arith, word c.before c.loop-i-test.true, small c.before c.loop-i-test.true) in
     search (rules, h)
 
-mul-adds : tie.Need-offset_bounds-adds-x invariant-loop decreases-loop
-mul-adds c = let h = digit c.before c.loop-i-test.true in search (rules, h)
-
-array-read-adds : tie.Need-bounds-adds-x invariant-loop decreases-loop
-array-read-adds c = digit c.before c.loop-i-test.true
-
 add-adds : tie.Need-overflow_add-adds invariant-loop decreases-loop
 add-adds c =
     let h : get_or c.loop-i.adds (x c.before c.loop-i-test.true) 0 + x c.before c.loop-i-test.true * c.loop-i.place < word_limit = omega (arith, added c.before c.loop-i-test.true, small c.before c.loop-i-test.true) in
     search (rules, h)
-
-array-write-adds : tie.Need-bounds-adds-x-in-loop-i invariant-loop decreases-loop
-array-write-adds c = digit c.before c.loop-i-test.true
 
 -- what the register before counts
 place-next : (c : tie.In-loop-i invariant-loop decreases-loop)
@@ -197,10 +188,10 @@ sums_of_spec =
     mul-part
     add-word
     (λ c. search rules)
-    mul-adds
-    array-read-adds
+    (λ c. let h = digit c.before c.loop-i-test.true in search (rules, h))
+    (λ c. omega (arith, digit c.before c.loop-i-test.true, here c.before c.loop-i-test.true, (start c.before c.loop-i-test.true).requires.0.registers))
     add-adds
-    array-write-adds
+    (λ c. omega (arith, digit c.before c.loop-i-test.true, here c.before c.loop-i-test.true, (start c.before c.loop-i-test.true).requires.0.registers))
     mul-place
     loop-less
     loop-again

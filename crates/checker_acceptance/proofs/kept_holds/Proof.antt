@@ -1,7 +1,7 @@
 -- `checker_acceptance::kept_holds` meets its contract: the end marks lose, or an attack wins, or the position holds. Assumes
 -- nothing.
 use mathlib.Core.Path.{◌≡◌, sym, ◌∙◌}
-use mathlib.Core.Bool.{false}
+use mathlib.Core.Bool.{true, false}
 use Rattle.fra.specs.Game.{lost_at_once}
 use Rattle.outcome.specs.Check.{holds}
 use Rattle.outcome.specs.declared.Standing.TheVariants.{Kept}
@@ -18,8 +18,8 @@ kept-marks : (c : tie.After-first_win-win)
     → let a = c.args in
     lost_at_once (rules_in a.index.now) (task_in a.index.now) a.p ≡ false
 kept-marks c =
-    let marks = c in
-    sym marks.lost_at_once.ensures ∙ marks.if-lost_at_once.false
+    let kept : c.lost_at_once.result ≡ false = search rules in
+    sym c.lost_at_once.ensures ∙ kept
 
 -- what the search for an attack says
 found : (c : tie.After-first_win-win)
@@ -27,36 +27,33 @@ found : (c : tie.After-first_win-win)
     first_win (lost_by a.pairs.now Kept a.certificate.now Unlisted) a.index.now a.p ≡ c.first_win-win.result
 found c = sym (rw c.records_of-records.ensures at c.first_win-win.ensures)
 
-returns : tie.Need-returns-then-lost_at_once
-unfolding holds
-returns c = rw (sym c.lost_at_once.ensures ∙ c.if-lost_at_once.true)
-
 first-win-requires : tie.Need-first_win-win-requires
 first-win-requires c κs =
     let given = c.requires in
     (rw c.records_of-records.ensures given.searchable, given.index)
 
-returns-2 : tie.Need-returns-in_default
-returns-2 c =
+returns : tie.Need-returns-in_default
+returns c =
     let searched = c.before in
     let start = searched in
     sym (kept_unwon start.requires start.args.p (kept-marks searched) (found searched ∙ c.in_default.is))
 
-returns-3 : tie.Need-returns
-returns-3 c =
+returns-2 : tie.Need-returns
+returns-2 c =
     let searched = c.before in
     let start = searched in
     sym (kept-won start.requires start.args.p (kept-marks searched) (found searched ∙ c.in-By.is))
 
 pub kept_holds_spec : {M : Type 1} → statement M
+unfolding holds
 kept_holds_spec =
     tie.close
     (tie.spec
     (λ c κs. search rules)
-    returns
+    (λ c. let lost : c.lost_at_once.result ≡ true = search rules in rw (sym c.lost_at_once.ensures ∙ lost))
     (λ c κs. search rules)
     first-win-requires
     (λ c. search rules)
     (λ c. search rules)
-    returns-2
-    returns-3)
+    returns
+    returns-2)

@@ -1,5 +1,5 @@
 -- `comparer_certify::writing::write` meets its contract: the size is known before anything is written. Assumes nothing.
-use Prim.Native.Nat.{◌*◌}
+use Prim.Native.Nat.{◌*◌, ◌≤◌, ◌<◌}
 use mathlib.Core.Path.{◌≡◌, sym}
 use native.Mathlib.Omega.{arith}
 use lib.ListN.{length}
@@ -31,28 +31,6 @@ mul-size c =
     rw (counted.count_listed.ensures, c.width.ensures)
     (omega (arith, bytes_few a.standing a.table.now a.n, start.requires.0.fitting.room, start.well_formed))
 
-returns : tie.Need-returns-then-buffer-size
-returns c =
-    let counted = c.before in
-    let a = counted.args in
-    too_long_lem _ a.table.now a.buffer.now (rw (← computed counted) c.if-buffer-size.true)
-
-put-records-requires : tie.Need-put_records-requires
-put-records-requires c κs =
-    let counted = c.before.before in
-    let start = counted in
-    (start.requires.0, (start.requires.1, rw (← computed counted) c.if-buffer-size.false))
-
-returns-2 : tie.Need-returns
-returns-2 c =
-    let done = c in
-    let rest = done in
-    let counted = rest.before.before.before.before.before in
-    let a = counted.args in
-    let room = rw (computed counted) at rest.if-buffer-size.false in
-    rw (computed counted, done.put_records.ensures, written-whole _ a.buffer.now room)
-    (fits _ a.table.now a.buffer.now room)
-
 pub write_spec : {M : Type 1} → statement M
 write_spec =
     tie.close
@@ -60,7 +38,14 @@ write_spec =
     (λ c κs. search rules)
     (λ c κs. search rules)
     mul-size
-    returns
-    put-records-requires
+    (λ c. let short : length c.args.buffer.now < c.count_listed.result * c.width.result = omega arith in
+    too_long_lem _ c.args.table.now c.args.buffer.now (rw (← computed c.before) short))
+    (λ c κs. let long : c.count_listed.result * c.width.result ≤ length c.args.buffer.now = omega arith in
+    (c.requires.0, (c.requires.1, rw (← computed c.before.before) long)))
     (λ c. search rules)
-    returns-2)
+    (λ c. let counted = c.before.before.before.before.before in
+    let a = c.args in
+    let long : c.count_listed.result * c.width.result ≤ length a.buffer.now = omega arith in
+    let room = rw (computed counted) at long in
+    rw (computed counted, c.put_records.ensures, written-whole _ a.buffer.now room)
+    (fits _ a.table.now a.buffer.now room)))

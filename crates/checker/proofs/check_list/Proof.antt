@@ -1,5 +1,6 @@
 -- `checker::check_list` meets its contract: the form, then acceptance. Assumes nothing.
 use mathlib.Core.Path.{◌≡◌, sym, ◌∙◌}
+use mathlib.Core.Bool.{true, false}
 use lib.ListN.{length}
 use borrow.Author.Tests.{not-true, not-false}
 use Rattle.outcome.specs.Verdicts.{verdict_of, kind_of}
@@ -50,31 +51,11 @@ returns c = rw (sym (is-formed c.before) ∙ not-true _ c.if-not-formed.true-raw
 accepted-requires : tie.Need-accepted-requires
 accepted-requires c κs = (c.requires, searchable c)
 
-returns-2 : tie.Need-returns-then-not-accepted
-unfolding judge_list
-returns-2 c =
-    let formed = c in
-    rw (
-      sym (is-formed formed.before.before.before) ∙ not-false _ formed.if-not-formed.false-raw,
-      sym c.accepted.ensures ∙ not-true _ c.if-not-accepted.true-raw,
-    )
-
 start-rounds-requires : tie.Need-start_rounds-requires
 start-rounds-requires c κs = searchable c.before.before
 
-returns-3 : tie.Need-returns
-unfolding judge_list
-returns-3 c =
-    let accepted = c in
-    let formed = accepted in
-    rw (
-      sym (is-formed formed.before.before.before.before) ∙ not-false _ formed.if-not-formed.false-raw,
-      sym accepted.accepted.ensures ∙ not-false _ accepted.if-not-accepted.false-raw,
-      c.start_rounds.ensures,
-      verdict formed.before.before.before.before.before.before.before,
-    )
-
 pub check_list_spec : {M : Type 1} → statement M
+unfolding judge_list
 check_list_spec =
     tie.close
     (tie.spec
@@ -85,6 +66,16 @@ check_list_spec =
     formed-requires
     returns
     accepted-requires
-    returns-2
+    (λ c. let turned-back : c.accepted.result ≡ false = search rules in
+    rw (
+      sym (is-formed c.before.before.before) ∙ not-false _ c.if-not-formed.false-raw,
+      sym c.accepted.ensures ∙ turned-back,
+    ))
     start-rounds-requires
-    returns-3)
+    (λ c. let passed : c.accepted.result ≡ true = search rules in
+    rw (
+      sym (is-formed c.before.before.before.before) ∙ not-false _ c.if-not-formed.false-raw,
+      sym c.accepted.ensures ∙ passed,
+      c.start_rounds.ensures,
+      verdict c.before.before.before.before.before.before.before,
+    )))

@@ -15,7 +15,7 @@ use Rattle.checker_acceptance.proofs.start_rounds.Tie as tie
 
 -- the list is one of losses
 standing : (c : tie.After-start) → c.args.standing ≡ Lost
-standing c = c.in-Lost.is
+standing c = cc
 
 listed : (c : tie.After-start)
     → let l = c.args.certificate.now in

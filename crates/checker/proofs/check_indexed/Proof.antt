@@ -23,30 +23,24 @@ lost-kind c =
     let kept = lost in
     c.kind-2.ensures ∙ ap kind_of (rw kept.game-game.ensures at lost.of-lost.ensures)
 
-returns : tie.Need-returns-then-certificate-eq0
+returns : tie.Need-returns-then-certificate-kind
 returns c =
-    let a = c.args in
-    let b = a.index.now in
-    sym (answer-empty (game_in b) (task_in b) a.certificate.now c.if-certificate-eq0.true)
-
-returns-2 : tie.Need-returns-then-certificate-kind
-returns-2 c =
     let then = c in
     let a = then.args in
     let b = a.index.now in
     rw (answer-kept (game_in b) (task_in b) a.certificate.now (omega arith) (then.if-certificate-kind.true ∙ kept-kind then.before.before))
     c.check_list.ensures
 
-returns-3 : tie.Need-returns-then-certificate-kind-2
-returns-3 c =
+returns-2 : tie.Need-returns-then-certificate-kind-2
+returns-2 c =
     let then = c in
     let a = then.args in
     let b = a.index.now in
     rw (answer-lost (game_in b) (task_in b) a.certificate.now (omega arith) (then.if-certificate-kind-2.true ∙ lost-kind then.before.before))
     c.check_list-then-certificate-kind-2.ensures
 
-returns-4 : tie.Need-returns
-returns-4 c =
+returns-3 : tie.Need-returns
+returns-3 c =
     let lost = c.before in
     let other = lost in
     let a = other.args in
@@ -60,16 +54,19 @@ pub check_indexed_spec : {M : Type 1} → statement M
 check_indexed_spec =
     tie.close
     (tie.spec
-    returns
+    (λ c.
+    let a = c.args in
+    let b = a.index.now in
+    sym (answer-empty (game_in b) (task_in b) a.certificate.now (omega arith)))
     (λ c κs. search rules)
+    (λ c κs. search rules)
+    (λ c. search rules)
+    (λ c κs. search rules)
+    (λ c κs. search rules)
+    returns
     (λ c κs. search rules)
     (λ c. search rules)
     (λ c κs. search rules)
     (λ c κs. search rules)
     returns-2
-    (λ c κs. search rules)
-    (λ c. search rules)
-    (λ c κs. search rules)
-    (λ c κs. search rules)
-    returns-3
-    returns-4)
+    returns-3)

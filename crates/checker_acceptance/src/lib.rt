@@ -4,7 +4,7 @@
 #![tactic(auto)]
 
 ghost use Rattle.std.specs.Prelude.{◌<◌, ◌≡◌, length};
-ghost use Rattle.std.proofs.Math.Option.{some};
+ghost use mathlib.Core.Option.{some};
 ghost use Rattle.outcome.specs.Check.{holds, forces, loss_holds};
 ghost use Rattle.outcome.specs.declared.Standing.TheVariants.{Kept, Lost};
 ghost use Rattle.listing.specs.Listing.{Searchable};

@@ -1,5 +1,5 @@
 -- What the numbers of a record name, by the functions' answers.
-use Rattle.std.proofs.Math.Option.{Option, none, some}
+use mathlib.Core.Option.{Option, none, some}
 use Rattle.fra.specs.declared.Side.{Side}
 use Rattle.fra.specs.declared.IdCase.{IdCase}
 use Rattle.fra.specs.declared.Attack.{Attack}

@@ -1,7 +1,7 @@
 -- What the comparer's parts leave in the table, and what a call gives: the answer, the table and the certificate buffer at exit are
 -- an outcome's.
 use Rattle.std.specs.Prelude.{ℕ, ◌*◌, ◌≤◌, ◌≡◌, cond, List, map, length, eqb}
-use Rattle.std.proofs.Math.Option.{Option, none, some}
+use mathlib.Core.Option.{Option, none, some}
 use Rattle.fra.specs.Reach.{reached}
 use Rattle.outcome.specs.Bytes.{all_ones}
 use Rattle.outcome.specs.Compare.{Outcome, judge, compare_task}

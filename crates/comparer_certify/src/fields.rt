@@ -1,6 +1,6 @@
 // The bytes of a certificate's records (01, "Verdict, table, certificate").
 ghost use Rattle.std.specs.Prelude.{◌+◌, ◌≤◌, ◌<◌, ◌≡◌, length};
-ghost use Rattle.std.proofs.lemmas.List.Edits.{sets};
+ghost use lib.Seq.{sets};
 ghost use Rattle.outcome.specs.Certificate.{side_number, case_number, kept_record};
 ghost use Rattle.outcome.specs.declared.Standing.TheVariants.{Lost};
 ghost use Rattle.listing.specs.Widths.{kept_width, lost_width};

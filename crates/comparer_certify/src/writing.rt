@@ -1,6 +1,6 @@
 // The records of all entries that have one, written if they fit.
 ghost use Rattle.std.specs.Prelude.{◌≤◌, ◌≡◌, length};
-ghost use Rattle.std.proofs.lemmas.List.Edits.{sets};
+ghost use lib.Seq.{sets};
 ghost use Rattle.listing.specs.Listing.{of_table, Searchable};
 ghost use Rattle.game_index.specs.Writing.{Index};
 ghost use Rattle.comparer_certify.specs.RecordFields.{records_in};

@@ -1,7 +1,7 @@
 -- The records of a certificate, by the entries of a table.
 use Rattle.std.specs.Prelude.{ℕ, ◌/◌, Bool, eqb}
 use mathlib.Core.List.{List, flat_map}
-use Rattle.std.proofs.Math.Option.{some}
+use mathlib.Core.Option.{some}
 use Rattle.fra.specs.Lists.{keep, count}
 use Rattle.fra.specs.Rules.{Rules}
 use Rattle.fra.specs.declared.Task.{Task}

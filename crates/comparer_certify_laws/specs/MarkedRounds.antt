@@ -1,6 +1,6 @@
 -- The rounds of an entry while marks stand: doubled, and 1 more where the entry is marked. "FF FF FF FF" stays as it is.
 use Rattle.std.specs.Prelude.{ℕ, ◌+◌, ◌*◌, ◌-◌, ◌/◌, ◌%◌, ◌^◌, Bool, cond, not, ◌&&◌, eqb}
-use Rattle.std.proofs.Math.Option.{Option, none, some}
+use mathlib.Core.Option.{Option, none, some}
 use Rattle.outcome.specs.Bytes.{all_ones}
 
 -- as many rounds no position has

@@ -1,6 +1,6 @@
 -- Marks in a table: those entries that are found and whose bytes are changed, one after another.
 use Rattle.std.specs.Prelude.{ℕ, zero, suc, ◌+◌, ◌*◌, Bool, cond, List, [], ◌∷◌, eqb}
-use Rattle.std.proofs.Math.Option.{Option, none}
+use mathlib.Core.Option.{Option, none}
 use Rattle.fra.specs.Rules.{Rules}
 use Rattle.fra.specs.declared.Position.{Position}
 use Rattle.fra.specs.declared.Task.{Task}

@@ -2,7 +2,7 @@
 #![tactic(auto)]
 
 ghost use Rattle.std.specs.Prelude.{◌<◌, ◌≡◌};
-ghost use Rattle.std.proofs.Math.Option.{some};
+ghost use mathlib.Core.Option.{some};
 ghost use Rattle.outcome.specs.Certificate.{attack_leads};
 ghost use Rattle.listing.specs.Listing.{of_table, Searchable};
 ghost use Rattle.game_index.specs.Reading.{task_in, rules_in};

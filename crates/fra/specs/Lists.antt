@@ -1,7 +1,7 @@
 -- The functions on lists that the definitions use beside the library's: tests that compute, and counting.
 use Rattle.std.specs.Prelude.{ℕ, zero, suc, Bool, true, false, ◌&&◌, ◌||◌, ltb, eqb}
 use mathlib.Core.List.{List, [], ◌∷◌, Memᴰ}
-use Rattle.std.proofs.Math.Option.{Option, none, some}
+use mathlib.Core.Option.{Option, none, some}
 
 module _ {A : Type 0} where
   infix 45 ◌∈◌

@@ -2,7 +2,7 @@
 -- believe is `Reached`; `reached` is the rising list that computes it.
 use Rattle.std.specs.Prelude.{ℕ, zero, suc, ◌*◌, ◌^◌, true, false, length, eqb}
 use mathlib.Core.List.{List, [], ◌∷◌, map, flat_map, foldr}
-use Rattle.std.proofs.Math.Option.{Option}
+use mathlib.Core.Option.{Option}
 use Rattle.fra.specs.Lists.{◌∈◌, least}
 use Rattle.fra.specs.Position.{most_seen, before}
 use Rattle.fra.specs.Rules.{Rules}

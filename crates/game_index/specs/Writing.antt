@@ -1,7 +1,7 @@
 -- The bytes of an index, and what they give to those who read them.
 use Rattle.std.specs.Prelude.{ℕ, suc, ◌<◌, ◌≤◌, ◌+◌, ◌≡◌, Bool, not, cond, ◌&&◌, length}
 use mathlib.Core.List.{List, [], ◌∷◌, ◌++◌, map, flat_map}
-use Rattle.std.proofs.lemmas.List.Edits.{sets}
+use lib.Seq.{sets}
 use Rattle.fra.specs.Lists.{any, count}
 use Rattle.fra.specs.Registers.{has, with}
 use Rattle.fra.specs.Model.{set_of, edge_of, edge_bytes, register_of}

@@ -3,7 +3,7 @@
 
 ghost use Rattle.std.specs.Prelude.{suc, ◌+◌, ◌*◌, ◌-◌, ◌≤◌, ◌≡◌, not, ◌&&◌, get_or, replicate};
 ghost use mathlib.Core.List.{[], ◌∷◌, map, flat_map};
-ghost use Rattle.std.proofs.lemmas.List.Edits.{sets};
+ghost use lib.Seq.{sets};
 ghost use Rattle.fra.specs.Lists.{any, count};
 ghost use Rattle.fra.specs.Registers.{has, with};
 ghost use Rattle.fra.specs.Model.{no_state};

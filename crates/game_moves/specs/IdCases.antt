@@ -1,7 +1,7 @@
 -- The id cases of an attack by number, and those that an edge has, where the register set of the other side's state and whether
 -- the history has room for a number that neither reader holds are given in place of the task.
 use Rattle.std.specs.Prelude.{ℕ, suc, ◌-◌, Bool, not, ◌&&◌, List, length, get_or, drop, eqb}
-use Rattle.std.proofs.Math.Option.{Option, none, some}
+use mathlib.Core.Option.{Option, none, some}
 use Rattle.fra.specs.Lists.{keep, least}
 use Rattle.fra.specs.Registers.{has}
 use Rattle.fra.specs.Model.{is_locally_fresh, is_fresh}

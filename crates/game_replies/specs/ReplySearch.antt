@@ -1,6 +1,6 @@
 -- The replies to an attack, from an edge of the other side's model on.
 use Rattle.std.specs.Prelude.{ℕ, ◌-◌, List}
-use Rattle.std.proofs.Math.Option.{Option, none, some}
+use mathlib.Core.Option.{Option, none, some}
 use Rattle.fra.specs.Lists.{keep, count, least}
 use Rattle.fra.specs.Model.{edge_of}
 use Rattle.fra.specs.Rules.{other, model_of}

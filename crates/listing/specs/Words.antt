@@ -1,6 +1,6 @@
 -- Words written into bytes.
 use Rattle.std.specs.Prelude.{ℕ, List}
-use Rattle.std.proofs.lemmas.List.Edits.{sets}
+use lib.Seq.{sets}
 use Rattle.outcome.specs.Bytes.{word}
 
 -- the bytes with a word written from a place on

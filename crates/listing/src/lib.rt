@@ -3,7 +3,7 @@
 #![tactic(auto)]
 
 ghost use Rattle.std.specs.Prelude.{◌+◌, ◌≤◌, ◌<◌, ◌≡◌, length, drop, ltb, eqb};
-ghost use Rattle.std.proofs.lemmas.List.Edits.{sets};
+ghost use lib.Seq.{sets};
 ghost use Rattle.fra.specs.Position.{bytes, before};
 ghost use Rattle.outcome.specs.Bytes.{word_at};
 ghost use Rattle.outcome.specs.Check.{position_of};

@@ -1,7 +1,7 @@
 -- 01, "Verdict, table, certificate": the bytes of the table and of the certificate.
 use Rattle.std.specs.Prelude.{ℕ, zero, suc, ◌+◌, Bool, true, false, length}
 use mathlib.Core.List.{List, [], ◌∷◌, ◌++◌, map, flat_map}
-use Rattle.std.proofs.Math.Option.{Option, none, some}
+use mathlib.Core.Option.{Option, none, some}
 use Rattle.fra.specs.Lists.{all, keep, first}
 use Rattle.fra.specs.Position.{bytes}
 use Rattle.fra.specs.Rules.{Rules}

@@ -1,7 +1,7 @@
 -- 01, "Verdict, table, certificate" and "Turned back": the outcome of a checker call on a task's bytes and a proposed
 -- certificate.
 use Rattle.std.specs.Prelude.{ℕ, zero, suc, ◌+◌, Bool, true, false, not, cond, ◌&&◌, List, [], ◌∷◌, map, length, get_or, take, drop, ltb, leb, eqb}
-use Rattle.std.proofs.Math.Option.{Option, none, some}
+use mathlib.Core.Option.{Option, none, some}
 use Rattle.fra.specs.Lists.{any, all, equal}
 use Rattle.fra.specs.Position.{legal, bytes, before}
 use Rattle.fra.specs.Rules.{Rules}

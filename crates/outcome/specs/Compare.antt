@@ -1,7 +1,7 @@
 -- 01, "Verdict, table, certificate" and "Turned back": the outcome of a comparer call, from the task's bytes, the table and
 -- the certificate buffer at entry to the answer and both buffers at exit.
 use Rattle.std.specs.Prelude.{ℕ, ◌/◌, true, false, List, length, ltb}
-use Rattle.std.proofs.Math.Option.{Option, none, some}
+use mathlib.Core.Option.{Option, none, some}
 use Rattle.fra.specs.Reach.{reached, rounds}
 use Rattle.fra.specs.declared.Task.{Task}
 use Rattle.task.specs.TaskFile.{read_task}

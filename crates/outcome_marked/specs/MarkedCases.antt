@@ -2,7 +2,7 @@
 -- for the mistakes that no marked case shows.
 use Rattle.std.specs.Prelude.{ℕ, Bool, true, ◌&&◌, replicate, eqb}
 use mathlib.Core.List.{List, [], ◌∷◌, ◌++◌, flat_map}
-use Rattle.std.proofs.Math.Option.{Option, none, some}
+use mathlib.Core.Option.{Option, none, some}
 use Rattle.outcome.specs.Verdicts.{contest_of, Values, values_of}
 use Rattle.fra.specs.declared.Game.{Game}
 use Rattle.fra.specs.declared.Game.TheVariants.{BothAttack, LeftAttacks}

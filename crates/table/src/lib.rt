@@ -3,7 +3,7 @@
 #![tactic(auto)]
 
 ghost use Rattle.std.specs.Prelude.{◌≡◌, ◌+◌, ◌*◌, ◌≤◌, ◌++◌, length, take, drop};
-ghost use Rattle.std.proofs.lemmas.List.Edits.{sets};
+ghost use lib.Seq.{sets};
 ghost use Rattle.outcome.specs.Bytes.{all_ones, cleared, then_zeros};
 ghost use Rattle.listing.specs.Widths.{entry_width};
 ghost use Rattle.table_keys.specs.Keys.{key_count, Sized};

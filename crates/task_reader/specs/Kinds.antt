@@ -1,5 +1,5 @@
 -- The kinds of record as the code has them, and those of the definitions.
-use Rattle.std.proofs.Math.Option.{Option, none, some}
+use mathlib.Core.Option.{Option, none, some}
 use Rattle.task.specs.TaskFile.{RecordKind, isHeader, isState, isEdge, isPair, isHistory, isEnd}
 use Rattle.task_reader.specs.declared.Kind.{Kind}
 use Rattle.task_reader.specs.declared.Kind.TheVariants.{Header, State, Edge, Pair, History, End}

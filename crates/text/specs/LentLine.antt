@@ -1,6 +1,6 @@
 -- Text in a lent line: the room that it has, and what it holds once a text is written.
 use Rattle.std.specs.Prelude.{ℕ, ◌+◌, ◌*◌, ◌-◌, ◌≤◌, ◌≡◌, List, length}
-use Rattle.std.proofs.lemmas.List.Edits.{sets}
+use lib.Seq.{sets}
 use Rattle.listing.specs.Widths.{record_position, lost_rounds}
 
 -- the longest word: FALLS SHORT

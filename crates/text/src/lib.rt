@@ -2,7 +2,7 @@
 #![tactic(auto)]
 
 ghost use Rattle.std.specs.Prelude.{◌+◌, ◌/◌, ◌≤◌, ◌≡◌, length, take};
-ghost use Rattle.std.proofs.lemmas.List.Edits.{sets};
+ghost use lib.Seq.{sets};
 ghost use Rattle.outcome.specs.Verdicts.{width_of};
 ghost use Rattle.outcome.specs.declared.Standing.TheVariants.{Kept, Lost};
 ghost use Rattle.text.specs.Text.{line_of, first_line, refused_line, too_long, body_at, record_line, lines_of, line_at};

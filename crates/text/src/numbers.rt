@@ -1,6 +1,6 @@
 // Numbers in decimal digits.
 ghost use Rattle.std.specs.Prelude.{◌+◌, ◌≤◌, ◌<◌, ◌≡◌, length};
-ghost use Rattle.std.proofs.lemmas.List.Edits.{sets};
+ghost use lib.Seq.{sets};
 ghost use Rattle.text.specs.Text.{decimal, spaced, digit};
 ghost use Rattle.text.specs.LentLine.{longest_number, line_room, Puts};
 

@@ -3,66 +3,33 @@
 // or `TOO LONG`.
 #![tactic(auto)]
 
-ghost use Rattle.std.specs.Prelude.{◌≤◌, ◌≡◌, IfOk, length};
-ghost use Rattle.check_certificate.specs.declared.FileRead.TheVariants.{Failed};
+ghost use Rattle.std.specs.Prelude.{◌≤◌, ◌≡◌, IfOk, None, length};
 ghost use Rattle.check_certificate.specs.Files.{Within};
 
 use fra::Game;
-use outcome::{Check, Verdict};
+use outcome::Acceptance;
 use std::env::{Env, FillError};
 use std::fs::File;
 use std::io;
 use std::io::{Cursor, Write};
+use task::Refusal;
 
-fn print(rt: &HostRuntime, text: &[u8]) -> io::Result<()> {
-    rt.write_all(text)
-}
-
-fn print_number(rt: &HostRuntime, n: u64) -> io::Result<()> {
-    println!(rt; " {n}")
-}
-
-fn print_check(rt: &HostRuntime, c: Check) -> io::Result<()> {
-    match c {
-        Check::Accepted { verdict, rounds } => print_accepted(rt, verdict, rounds),
-        Check::Refused(n) => {
-            print(rt, b"REFUSED")?;
-            print_number(rt, n as u64)
-        }
+fn print_answer(rt: &HostRuntime, answer: Result<Acceptance, Refusal>) -> io::Result<()> {
+    match answer {
+        Ok(a) => println!(rt; "ACCEPTED {} {}", a.verdict, a.rounds),
+        Err(refusal) => println!(rt; "REFUSED {}", u8::from(refusal)),
     }
 }
 
-fn print_accepted(rt: &HostRuntime, verdict: Verdict, rounds: u32) -> io::Result<()> {
-    match verdict {
-        Verdict::Equal => print(rt, b"ACCEPTED EQUAL")?,
-        Verdict::Differ => print(rt, b"ACCEPTED DIFFER")?,
-        Verdict::Follows => print(rt, b"ACCEPTED FOLLOWS")?,
-        Verdict::FallsShort => print(rt, b"ACCEPTED FALLS SHORT")?,
-    }
-    print_number(rt, rounds as u64)
-}
+const USAGE: &str = "check_certificate TASK CERTIFICATE [--one-way]";
 
 // The room for an argument, as for a path with the system's mark of its end.
 const LONGEST_ARGUMENT: usize = 4096;
 
-fn complain(rt: &HostRuntime, text: &[u8]) -> io::Result<()> {
-    Print::write_all(&rt.stderr(), text)
-}
-
-// The game that the certificate is checked by, or the arguments ask for none, which has been said on standard error.
-#[derive(Clone, Copy)]
-enum Asked {
-    By(Game),
-    Unknown,
-}
-
 // Whether the program was started with an argument i.
 fn is_there(rt: &HostRuntime, i: usize) -> bool {
     let mut word = [0u8; LONGEST_ARGUMENT];
-    match rt.arg(i, &mut word) {
-        Err(FillError::NotPresent) => false,
-        _ => true,
-    }
+    !matches!(rt.arg(i, &mut word), Err(FillError::NotPresent))
 }
 
 // Whether argument i is the word that asks for the one-way game.
@@ -74,23 +41,16 @@ fn asks_one_way(rt: &HostRuntime, i: usize) -> bool {
     }
 }
 
-// What the arguments after the two files ask for.
-fn game_asked(rt: &HostRuntime) -> io::Result<Asked> {
+// The game that the certificate is checked by. Where the arguments ask for none, that is said on standard error.
+fn game_asked(rt: &HostRuntime) -> io::Result<Option<Game>> {
     if !is_there(rt, 3) {
-        return Ok(Asked::By(Game::BothAttack));
+        return Ok(Some(Game::BothAttack));
     }
     if !is_there(rt, 4) && asks_one_way(rt, 3) {
-        return Ok(Asked::By(Game::LeftAttacks));
+        return Ok(Some(Game::LeftAttacks));
     }
-    complain(rt, b"check_certificate TASK CERTIFICATE [--one-way]\n")?;
-    Ok(Asked::Unknown)
-}
-
-// What a file gave: so many bytes, or it could not be read, which has been said on standard error.
-#[derive(Clone, Copy)]
-enum FileRead {
-    Bytes(usize),
-    Failed,
+    eprintln!(rt; "{USAGE}")?;
+    Ok(None)
 }
 
 // How much of an error's text says why: behind it stands the system's number in brackets.
@@ -106,9 +66,13 @@ fn reason_length(text: &[u8]) -> usize
 // The room for an error's text.
 const LONGEST_TEXT: usize = 128;
 
-// Says on standard error what could not be read, and why.
-fn say_failed(rt: &HostRuntime, what: &[u8], why: io::Error) -> io::Result<FileRead>
-    ensures { IfOk result (λ r. r ≡ Failed) }
+fn complain(rt: &HostRuntime, text: &[u8]) -> io::Result<()> {
+    Print::write_all(&rt.stderr(), text)
+}
+
+// Says on standard error what could not be read, and why: no bytes were.
+fn say_failed(rt: &HostRuntime, what: &[u8], why: io::Error) -> io::Result<Option<usize>>
+    ensures { IfOk result (λ r. r ≡ None) }
 {
     let mut text = Cursor::new([0u8; LONGEST_TEXT]);
     let _ = write!(text, "{why}");
@@ -119,7 +83,7 @@ fn say_failed(rt: &HostRuntime, what: &[u8], why: io::Error) -> io::Result<FileR
     complain(rt, b": ")?;
     complain(rt, &text[..n])?;
     complain(rt, b"\n")?;
-    Ok(FileRead::Failed)
+    Ok(None)
 }
 
 // The system's numbers for an argument that is missing, and for one that is too long.
@@ -127,8 +91,8 @@ const INVALID_ARGUMENT: i32 = 22;
 
 const NAME_TOO_LONG: i32 = 36;
 
-// Reads the file of a path.
-fn read_path(rt: &HostRuntime, path: &[u8], out: &mut [u8]) -> io::Result<FileRead>
+// Reads the file of a path, and says how many bytes it gave. Where it cannot be read, that is said on standard error.
+fn read_path(rt: &HostRuntime, path: &[u8], out: &mut [u8]) -> io::Result<Option<usize>>
     ensures read { IfOk result (λ r. Within r out.new) }
     ensures room_stays { length out.new ≡ length out.old }
 {
@@ -138,14 +102,14 @@ fn read_path(rt: &HostRuntime, path: &[u8], out: &mut [u8]) -> io::Result<FileRe
     match File::open(rt, name) {
         Ok(mut file) => {
             let n = reading::read_full(&mut file, out)?;
-            Ok(FileRead::Bytes(n))
+            Ok(Some(n))
         }
         Err(why) => say_failed(rt, path, why),
     }
 }
 
 // Reads the file that argument i names.
-fn read_file(rt: &HostRuntime, i: usize, out: &mut [u8]) -> io::Result<FileRead>
+fn read_file(rt: &HostRuntime, i: usize, out: &mut [u8]) -> io::Result<Option<usize>>
     ensures read { IfOk result (λ r. Within r out.new) }
     ensures room_stays { length out.new ≡ length out.old }
 {
@@ -155,8 +119,7 @@ fn read_file(rt: &HostRuntime, i: usize, out: &mut [u8]) -> io::Result<FileRead>
         Err(FillError::NotPresent) => INVALID_ARGUMENT,
         Err(FillError::TooLong) => NAME_TOO_LONG,
     };
-    let usage = b"check_certificate TASK CERTIFICATE [--one-way]";
-    say_failed(rt, usage, io::Error::from_raw_os_error(why))
+    say_failed(rt, USAGE.as_bytes(), io::Error::from_raw_os_error(why))
 }
 
 // The longest task and certificate that are read.
@@ -165,20 +128,19 @@ const LONGEST_TASK: usize = 4096;
 const LONGEST_CERTIFICATE: usize = 131072;
 
 fn main(rt: HostRuntime) -> io::Result<()> {
-    let asked = game_asked(&rt)?;
-    let Asked::By(game) = asked else {
+    let Some(game) = game_asked(&rt)? else {
         return Ok(());
     };
     let mut task = [0u8; LONGEST_TASK + 1];
     let mut certificate = [0u8; LONGEST_CERTIFICATE + 1];
-    let FileRead::Bytes(n) = read_file(&rt, 1, &mut task)? else {
+    let Some(n) = read_file(&rt, 1, &mut task)? else {
         return Ok(());
     };
-    let FileRead::Bytes(m) = read_file(&rt, 2, &mut certificate)? else {
+    let Some(m) = read_file(&rt, 2, &mut certificate)? else {
         return Ok(());
     };
     if LONGEST_TASK < n || LONGEST_CERTIFICATE < m {
-        return print(&rt, b"TOO LONG\n");
+        return println!(&rt; "TOO LONG");
     }
-    print_check(&rt, checker::check(game, &task[..n], &certificate[..m]))
+    print_answer(&rt, checker::check(game, &task[..n], &certificate[..m]))
 }

@@ -1,11 +1,10 @@
 -- What the records of a certificate judge lost: positions that are not listed as kept, or that are listed as lost with fewer
 -- rounds. So judged, a kept position holds unless an attack wins, and a loss is forced by an attack that wins. Assumes
 -- nothing.
-use Prim.Native.Nat.{ℕ}
 use mathlib.Core.Path.{◌≡◌, refl, sym, ◌∙◌, ap}
-use mathlib.Core.Bool.{Bool, true, false, not, ◌&&◌}
+use mathlib.Core.Bool.{Bool, false, not, ◌&&◌}
 use mathlib.Core.List.{List}
-use mathlib.Core.Option.{Option, some}
+use Rattle.std.specs.Prelude.{ℕ, Option, None, Some, is_some, is_none}
 use lib.ListN.{length}
 use lib.Dec.{ltb}
 use Rattle.fra.specs.Lists.{any}
@@ -17,20 +16,15 @@ use Rattle.outcome.specs.Check.{same, holds, forces}
 use Rattle.outcome.specs.declared.Standing.{Standing}
 use Rattle.outcome.specs.declared.Standing.TheVariants.{Kept, Lost}
 use Rattle.listing.specs.Lookup.{place_of}
-use Rattle.listing.specs.declared.Place.{Place}
-use Rattle.listing.specs.declared.Place.TheVariants.{At, Nowhere}
 use Rattle.game_index.specs.Reading.{task_in, rules_in}
-use Rattle.game_replies.specs.Winner.{wins_by, winner, is_found as isWon}
+use Rattle.game_replies.specs.Winner.{wins_by, winner}
 use Rattle.game_wins.specs.Judgement.{lost_at, judged, judged_among}
-use Rattle.game_wins.specs.Wins.{win_of}
 use Rattle.game_wins.specs.declared.Judge.{Judge}
 use Rattle.game_wins.specs.declared.Test.{Test}
 use Rattle.game_wins.specs.declared.Test.TheVariants.{Sooner, Unlisted}
-use Rattle.game_wins.specs.declared.Win.TheVariants.{By, Nobody}
 use Rattle.game_wins.proofs.AllPairs.{among-all}
-use Rattle.game_wins.proofs.WinAnswers.{winner_none, winner-some}
 use Rattle.checker_laws.specs.CertificateRecords.{records_of, kept_in, losses_in}
-use Rattle.checker_laws.proofs.LookedUp.{is_found, sooner_found, lost_in, position-listed, loss_sooner}
+use Rattle.checker_laws.proofs.LookedUp.{sooner_found, lost_in, position-listed, loss_sooner}
 use Rattle.checker_acceptance.specs.RecordTests.{Testable}
 use Rattle.checker_acceptance.proofs.HoldsUnlessWon.{holds_unless_won, forces_if_won}
 
@@ -52,23 +46,15 @@ module _ {b l pairs : List ℕ} where
         rw h.every
         (among-all l (judge_of Kept l Unlisted) q ∙ at (place_of q (kept_in l)) ∙ ap not (sym (position-listed q (kept_in l))))
       where
-        at : (o : Place) → lost_at l (records_of Kept (length l)) Unlisted o ≡ not (is_found o)
-        at (At i) = refl
-        at Nowhere = refl
+        at : (o : Option ℕ) → lost_at l (records_of Kept (length l)) Unlisted o ≡ not (is_some o)
+        at (Some i) = refl
+        at None = refl
 
-    module _ (p : Position) (e : lost_at_once (rules_in b) (task_in b) p ≡ false) where
-      abbrev won : Option Attack
-      won = winner (rules_in b) (task_in b) (lost_by pairs Kept l Unlisted) p
-
-      kept_by-winner : holds (rules_in b) (task_in b) (kept_in l) p ≡ not (isWon won)
-      kept_by-winner =
-          holds_unless_won (rules_in b) (task_in b) (lost_by pairs Kept l Unlisted) (kept_in l) unlisted_lost p ∙ rw e
-
-      pub kept-won : {a : Attack} → win_of won ≡ By a → holds (rules_in b) (task_in b) (kept_in l) p ≡ false
-      kept-won f = kept_by-winner ∙ rw (winner-some won f)
-
-      pub kept_unwon : win_of won ≡ Nobody → holds (rules_in b) (task_in b) (kept_in l) p ≡ true
-      kept_unwon f = kept_by-winner ∙ rw (winner_none won f)
+    pub kept_by-winner : (p : Position) → lost_at_once (rules_in b) (task_in b) p ≡ false
+        → holds (rules_in b) (task_in b) (kept_in l) p
+        ≡ is_none (winner (rules_in b) (task_in b) (lost_by pairs Kept l Unlisted) p)
+    kept_by-winner p e =
+        holds_unless_won (rules_in b) (task_in b) (lost_by pairs Kept l Unlisted) (kept_in l) unlisted_lost p ∙ rw e
 
   -- ── Losses ──
 
@@ -80,12 +66,12 @@ module _ {b l pairs : List ℕ} where
         rw h.every
         (among-all l (judge_of Lost l (Sooner n)) q ∙ at (place_of q (lost_in l)) ∙ sym (loss_sooner l h.searchable q n))
       where
-        at : (o : Place) → lost_at l (records_of Lost (length l)) (Sooner n) o ≡ sooner_found l n o
-        at (At i) = refl
-        at Nowhere = refl
+        at : (o : Option ℕ) → lost_at l (records_of Lost (length l)) (Sooner n) o ≡ sooner_found l n o
+        at (Some i) = refl
+        at None = refl
 
     pub loss_won : (x : Loss) (a : Attack)
-        → forces (rules_in b) (task_in b) (losses_in l) x (some a)
+        → forces (rules_in b) (task_in b) (losses_in l) x (Some a)
         ≡ (is_attack (rules_in b) (task_in b) x.position a
         && wins_by (task_in b) (lost_by pairs Lost l (Sooner x.rounds)) x.position a)
     loss_won x a =

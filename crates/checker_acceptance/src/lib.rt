@@ -3,28 +3,27 @@
 // the two it is.
 #![tactic(auto)]
 
-ghost use Rattle.std.specs.Prelude.{◌<◌, ◌≡◌, length};
-ghost use mathlib.Core.Option.{some};
+ghost use Rattle.std.specs.Prelude.{◌<◌, ◌≡◌, length, Some};
 ghost use Rattle.outcome.specs.Check.{holds, forces, loss_holds};
 ghost use Rattle.outcome.specs.declared.Standing.TheVariants.{Kept, Lost};
 ghost use Rattle.listing.specs.Listing.{Searchable};
 ghost use Rattle.game_index.specs.Reading.{task_in, rules_in};
-ghost use Rattle.game_index.specs.Writing.{Index};
 ghost use Rattle.checker_laws.specs.CertificateRecords.{records_of, kept_in, loss_at, losses_in};
 ghost use Rattle.checker_laws.specs.CheckAnswers.{lost_already, record_holds, accepted_by, rounds_by};
 ghost use Rattle.checker_acceptance.specs.RecordTests.{Testable, loss_of};
 
-use checker_attacks::{AttackNamed, attack_named, is_attack};
+use checker_attacks::{attack_named, is_attack};
 use fra::{Attack, Position};
+use game_index::TaskIndex;
 use game_index::layout::SIZE;
 use game_replies::Challenge;
 use game_state_pairs::SIZE as PAIRS;
-use game_wins::{Judge, Test, Win, first_win, settled};
-use listing::{Listing, Place, find, position_at, rounds_at};
+use game_wins::{Judge, Test, first_win, settled};
+use listing::{Listing, find, position_at, rounds_at};
 use outcome::{Standing, layout};
 
 // What a record of a lost position claims.
-#[derive(Clone, Copy)]
+#[derive(Clone, Copy, Debug, PartialEq, Eq)]
 pub struct Claim {
     pub position: Position,
     pub side: u8,
@@ -46,20 +45,17 @@ pub fn records_of(standing: Standing, length: usize) -> Listing
 // ── Kept positions ──
 
 // A kept position holds: its end marks do not lose, and no attack has only replies that lead to positions which are not listed.
-fn kept_holds(index: &[u8; SIZE], certificate: &[u8], pairs: &[u8; PAIRS], p: Position) -> bool
-    requires { Testable Kept index.now certificate.now pairs.now }
-    ensures { result ≡ holds (rules_in index.now) (task_in index.now) (kept_in certificate.now) p }
+fn kept_holds(index: &TaskIndex, certificate: &[u8], pairs: &[u8; PAIRS], p: Position) -> bool
+    requires { Testable Kept index.now.bytes certificate.now pairs.now }
+    ensures { result ≡ holds (rules_in index.now.bytes) (task_in index.now.bytes) (kept_in certificate.now) p }
 {
-    if game_index::lost_at_once(index, p) {
-        return false;
+    if game_index::lost_at_once(&index.bytes, p) {
+        return false; // for its end marks lose
     }
     let records = records_of(Standing::Kept, certificate.len());
     let test = Test::Unlisted;
     let win = first_win(certificate, Judge { records, test }, pairs, index, p);
-    let Win::By(_) = win else {
-        return true;
-    };
-    false
+    win.is_none()
 }
 
 // ── Losses ──
@@ -82,13 +78,13 @@ fn claim_at(certificate: &[u8], i: usize) -> Claim
 }
 
 // The attack exists, and every reply leads to a listed position of fewer rounds than the record has.
-fn forces(index: &[u8; SIZE], certificate: &[u8], pairs: &[u8; PAIRS], x: Claim, a: Attack) -> bool
-    requires { Testable Lost index.now certificate.now pairs.now }
-    ensures { result ≡ forces (rules_in index.now) (task_in index.now) (losses_in certificate.now) (loss_of x) (some a) }
+fn forces(index: &TaskIndex, certificate: &[u8], pairs: &[u8; PAIRS], x: Claim, a: Attack) -> bool
+    requires { Testable Lost index.now.bytes certificate.now pairs.now }
+    ensures { result ≡ forces (rules_in index.now.bytes) (task_in index.now.bytes) (losses_in certificate.now) (loss_of x) (Some a) }
 {
     let p = x.position;
-    if !is_attack(index, p, a) {
-        return false;
+    if !is_attack(&index.bytes, p, a) {
+        return false; // for there is no such attack
     }
     let records = records_of(Standing::Lost, certificate.len());
     let test = Test::Sooner(x.rounds);
@@ -107,41 +103,39 @@ fn forces(index: &[u8; SIZE], certificate: &[u8], pairs: &[u8; PAIRS], x: Claim,
 fn lost_already(index: &[u8; SIZE], x: Claim) -> bool
     ensures { result ≡ lost_already (rules_in index.now) (task_in index.now) (loss_of x) }
 {
-    let p = x.position;
-    if !game_index::lost_at_once(index, p) {
-        return false;
+    if !game_index::lost_at_once(index, x.position) {
+        return false; // for its end marks do not lose
     }
     x.side == 0 && x.edge == 0 && x.case == 0
 }
 
 // A record of a lost position holds.
-fn loss_holds(index: &[u8; SIZE], certificate: &[u8], pairs: &[u8; PAIRS], x: Claim) -> bool
-    requires { Testable Lost index.now certificate.now pairs.now }
-    ensures { result ≡ loss_holds (rules_in index.now) (task_in index.now) (losses_in certificate.now) (loss_of x) }
+fn loss_holds(index: &TaskIndex, certificate: &[u8], pairs: &[u8; PAIRS], x: Claim) -> bool
+    requires { Testable Lost index.now.bytes certificate.now pairs.now }
+    ensures { result ≡ loss_holds (rules_in index.now.bytes) (task_in index.now.bytes) (losses_in certificate.now) (loss_of x) }
 {
     if x.rounds == 0 {
-        return lost_already(index, x);
+        return lost_already(&index.bytes, x);
     }
-    let named = attack_named(x.side, x.edge, x.case);
-    let AttackNamed::By(a) = named else {
-        return false;
-    };
-    forces(index, certificate, pairs, x, a)
+    match attack_named(x.side, x.edge, x.case) {
+        Some(a) => forces(index, certificate, pairs, x, a),
+        None => false,
+    }
 }
 
 // ── Either ──
 
 // Record i holds.
 fn record_holds(
-    index: &[u8; SIZE],
+    index: &TaskIndex,
     certificate: &[u8],
     pairs: &[u8; PAIRS],
     standing: Standing,
     i: usize,
 ) -> bool
-    requires testable { Testable standing index.now certificate.now pairs.now }
+    requires testable { Testable standing index.now.bytes certificate.now pairs.now }
     requires i_bound { i < (records_of standing (length certificate.now)).count }
-    ensures { result ≡ record_holds (rules_in index.now) (task_in index.now) standing certificate.now i }
+    ensures { result ≡ record_holds (rules_in index.now.bytes) (task_in index.now.bytes) standing certificate.now i }
 {
     match standing {
         Standing::Kept => {
@@ -158,23 +152,20 @@ fn record_holds(
 }
 
 // The list is accepted: the start is listed, and every record holds.
-pub fn accepted(index: &[u8; SIZE], certificate: &[u8], standing: Standing) -> bool
-    requires index { Index index.now }
-    requires searchable { Searchable (records_of standing (length certificate.now)) certificate.now }
-    ensures { result ≡ accepted_by (rules_in index.now) (task_in index.now) standing certificate.now }
+pub fn accepted(index: &TaskIndex, certificate: &[u8], standing: Standing) -> bool
+    requires { Searchable (records_of standing (length certificate.now)) certificate.now }
+    ensures { result ≡ accepted_by (rules_in index.now.bytes) (task_in index.now.bytes) standing certificate.now }
 {
     let records = records_of(standing, certificate.len());
-    let place = find(certificate, records, game_index::start(index));
-    let Place::At(_) = place else {
-        return false;
-    };
+    let place = find(certificate, records, game_index::start(&index.bytes));
+    if place.is_none() {
+        return false; // for the start is not listed
+    }
     let pairs = game_state_pairs::ALL;
-    let mut i: usize = 0;
-    while i < records.count {
+    for i in 0..records.count {
         if !record_holds(index, certificate, &pairs, standing, i) {
             return false;
         }
-        i += 1;
     }
     true
 }
@@ -188,9 +179,8 @@ pub fn start_rounds(index: &[u8; SIZE], certificate: &[u8], standing: Standing) 
         return 0;
     };
     let records = records_of(Standing::Lost, certificate.len());
-    let place = find(certificate, records, game_index::start(index));
-    let Place::At(i) = place else {
-        return 0;
-    };
-    rounds_at(certificate, records, i)
+    match find(certificate, records, game_index::start(index)) {
+        Some(i) => rounds_at(certificate, records, i),
+        None => 0,
+    }
 }

@@ -7,37 +7,23 @@ ghost use Rattle.game_index.specs.Reading.{task_in};
 
 use fra::{Model, Position, Side, has};
 use game_index::layout::SIZE;
-use task_lookup::bytes::contains;
 
 // The partner x of left register i is none, or both are in their sets and no later left register has it.
 fn partner_fits(left: u8, right: u8, i: u8, x: u8, later: &[u8]) -> bool
     ensures { result ≡ (eqb x 0 || (has left i && has right x && not (any (eqb x) later.now))) }
 {
-    if x == 0 {
-        return true;
-    }
-    if !has(left, i) {
-        return false;
-    }
-    if !has(right, x) {
-        return false;
-    }
-    !contains(later, x)
+    x == 0 || (has(left, i) && has(right, x) && !later.contains(&x))
 }
 
 // The partners join registers of the two sets, and no right register is used twice.
-fn matching(left: u8, right: u8, partners: [u8; 6]) -> bool
-    ensures { result ≡ matching left right 1 partners }
+fn matching(left: u8, right: u8, partners: &[u8; 6]) -> bool
+    ensures { result ≡ matching left right 1 partners.now }
 {
-    let mut i: u8 = 0;
-    while i < Model::REGISTERS {
+    for i in 0..Model::REGISTERS {
         let k = i as usize;
-        let after = k + 1;
-        let x = partners[k];
-        if !partner_fits(left, right, i + 1, x, &partners[after..]) {
+        if !partner_fits(left, right, i + 1, partners[k], &partners[k + 1..]) {
             return false;
         }
-        i += 1;
     }
     true
 }
@@ -47,7 +33,6 @@ fn matching(left: u8, right: u8, partners: [u8; 6]) -> bool
 pub fn legal(index: &[u8; SIZE], p: Position) -> bool
     ensures { result ≡ legal 6 (task_in index.now) p }
 {
-    let partners = p.partners;
     if game_index::state_count(index, Side::Left) <= p.left {
         return false;
     }
@@ -56,7 +41,7 @@ pub fn legal(index: &[u8; SIZE], p: Position) -> bool
     }
     let left = game_index::set_of(index, Side::Left, p.left);
     let right = game_index::set_of(index, Side::Right, p.right);
-    if !matching(left, right, partners) {
+    if !matching(left, right, &p.partners) {
         return false;
     }
     (p.held(left, right) <= p.history) & (p.history <= Position::MOST_SEEN)

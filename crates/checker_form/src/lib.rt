@@ -50,15 +50,14 @@ pub fn formed(index: &[u8; SIZE], certificate: &[u8], kind: u8, records: Listing
     requires { Fitting records certificate.now }
     ensures { result ≡ formed (task_in index.now) kind records certificate.now }
 {
-    if certificate.len() % records.width != 0 {
+    let cut = certificate.len() % records.width != 0;
+    if cut {
         return false;
     }
-    let mut i: usize = 0;
-    while i < records.count {
+    for i in 0..records.count {
         if !record_formed(index, certificate, kind, records, i) {
             return false;
         }
-        i += 1;
     }
     true
 }

@@ -4,7 +4,7 @@ use mathlib.Core.Path.{◌≡◌, refl, sym, ◌∙◌}
 use mathlib.Core.Logic.{◌≢◌}
 use mathlib.Core.Bool.{false}
 use mathlib.Core.List.{List, [], ◌∷◌, map-map}
-use mathlib.Core.Option.{Option, none, some}
+use Rattle.std.specs.Prelude.{Option, None, Some, Err}
 use native.Mathlib.Omega.{arith}
 use lib.ListN.{length, get_or}
 use borrow.Author.Tests.{eq-eqb, ne_eqb}
@@ -15,7 +15,7 @@ use Rattle.outcome.specs.Certificate.{Loss}
 use Rattle.outcome.specs.Check.{loss_from, kept_length, loss_length, bodies, judge_list, check_kept, check_losses, check_task}
 use Rattle.outcome.specs.Refusals.{records}
 use Rattle.outcome.specs.Verdicts.{contest_of, verdict_of, kind_of}
-use Rattle.outcome.specs.declared.Check.TheVariants.{Refused}
+use Rattle.task.specs.declared.Refusal.TheVariants.{Malformed, NotAccepted}
 use Rattle.outcome.specs.declared.Standing.TheVariants.{Kept, Lost}
 use Rattle.outcome_laws.proofs.Bodies.{Whole, bodies-some, bodies_none}
 use Rattle.listing.specs.Widths.{lost_rounds}
@@ -26,15 +26,15 @@ use Rattle.checker_laws.proofs.CertificateForm.{formed-whole, formed_stops}
 
 -- bytes are whole records of a kind, or they are read as none and are not well formed
 data Splits (t : Task) (kind size rounds : ℕ) (l : List ℕ) : Option (List (List ℕ)) → Type 0 where
-  whole : (bs : List (List ℕ)) → Whole size bs → l ≡ records kind bs → Splits t kind size rounds l (some bs)
-  broken : formed t kind (whole_in size rounds l) l ≡ false → Splits t kind size rounds l none
+  whole : (bs : List (List ℕ)) → Whole size bs → l ≡ records kind bs → Splits t kind size rounds l (Some bs)
+  broken : formed t kind (whole_in size rounds l) l ≡ false → Splits t kind size rounds l None
 
 splits : (t : Task) (kind size rounds : ℕ) (l : List ℕ) → Splits t kind size rounds l (bodies kind size (suc (length l)) l)
 splits t kind size rounds l = step (bodies kind size (suc (length l)) l) refl
   where
     step : (o : Option (List (List ℕ))) → bodies kind size (suc (length l)) l ≡ o → Splits t kind size rounds l o
-    step (some bs) e = let (f, w) = (bodies-some kind size (suc (length l)) l (omega arith) bs).0 e in whole bs w f
-    step none e =
+    step (Some bs) e = let (f, w) = (bodies-some kind size (suc (length l)) l (omega arith) bs).0 e in whole bs w f
+    step None e =
         let (bs, b, rest, w, f, s) = bodies_none kind size (suc (length l)) l (omega arith) e in
         broken (rw f (formed_stops t kind size rounds bs w b rest s))
 
@@ -70,7 +70,7 @@ kinds_apart BothAttack e = omega arith
 kinds_apart LeftAttacks e = omega arith
 
 module _ (g : Game) (t : Task) where
-  pub answer-empty : (l : List ℕ) → length l ≡ 0 → check_task 6 (contest_of g) t l ≡ Refused 14
+  pub answer-empty : (l : List ℕ) → length l ≡ 0 → check_task 6 (contest_of g) t l ≡ Err NotAccepted
   unfolding check_task
   answer-empty [] e = refl
   answer-empty (b ∷ l) e = absurd (omega arith)
@@ -93,7 +93,7 @@ module _ (g : Game) (t : Task) where
       (loss_answer g t (k ∷ l) _ (splits t k (loss_length 6) lost_rounds (k ∷ l)))
 
   pub answer-unknown : (l : List ℕ) → 0 < length l → get_or l 0 0 ≢ kind_of (verdict_of g Kept) → get_or l 0 0 ≢ kind_of (verdict_of g Lost)
-      → check_task 6 (contest_of g) t l ≡ Refused 13
+      → check_task 6 (contest_of g) t l ≡ Err Malformed
   unfolding check_task
   answer-unknown [] p e d = absurd (omega arith)
   answer-unknown (b ∷ l) p e d = rw (ne_eqb b (kind_of (verdict_of g Kept)) e, ne_eqb b (kind_of (verdict_of g Lost)) d, check_task)

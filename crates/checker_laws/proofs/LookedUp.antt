@@ -5,6 +5,7 @@ use mathlib.Core.Path.{◌≡◌, refl, sym, ◌∙◌, ap, ap₂}
 use mathlib.Core.Bool.{Bool, true, false, ◌&&◌, ◌||◌}
 use mathlib.Core.List.Memᴰ
 use mathlib.Core.List.{List, [], ◌∷◌, map}
+use Rattle.std.specs.Prelude.{Option, None, Some, is_some}
 use lib.ListN.{length}
 use lib.Dec.{ltb}
 use Rattle.fra.specs.Lists.{any, all, count}
@@ -22,8 +23,6 @@ use Rattle.outcome.specs.declared.Standing.TheVariants.{Kept, Lost}
 use Rattle.outcome_laws.proofs.Accepted.{same_passes}
 use Rattle.listing.specs.Listing.{position_at, rounds_at, positions_in, Searchable}
 use Rattle.listing.specs.Lookup.{place_from, place_of}
-use Rattle.listing.specs.declared.Place.{Place}
-use Rattle.listing.specs.declared.Place.TheVariants.{At, Nowhere}
 use Rattle.checker_laws.specs.CertificateRecords.{records_of, kept_in, loss_at, losses_in}
 use Rattle.checker_laws.specs.CheckAnswers.{record_holds, accepted_by}
 
@@ -34,20 +33,16 @@ any-map f g (x ∷ l) = ap (λ b. f (g x) || b) (any-map f g l)
 
 -- ── Positions ──
 
-abbrev pub is_found : Place → Bool
-is_found (At i) = true
-is_found Nowhere = false
-
-pub position-listed : (p : Position) (l : List Position) → any (same p) l ≡ is_found (place_of p l)
+pub position-listed : (p : Position) (l : List Position) → any (same p) l ≡ is_some (place_of p l)
 unfolding any place_from
 position-listed p l = from 0 l
   where
-    from : (k : ℕ) (l : List Position) → any (same p) l ≡ is_found (place_from k p l)
+    from : (k : ℕ) (l : List Position) → any (same p) l ≡ is_some (place_from k p l)
     from k [] = refl
     from k (q ∷ l) = step (same p q) refl (from (suc k) l)
       where
-        step : (b : Bool) → same p q ≡ b → any (same p) l ≡ is_found (place_from (suc k) p l)
-            → any (same p) (q ∷ l) ≡ is_found (place_from k p (q ∷ l))
+        step : (b : Bool) → same p q ≡ b → any (same p) l ≡ is_some (place_from (suc k) p l)
+            → any (same p) (q ∷ l) ≡ is_some (place_from k p (q ∷ l))
         step true e rest = rw (e, place_from)
         step false e rest = rw (e, place_from) rest
 
@@ -58,21 +53,21 @@ abbrev pub lost_in : List ℕ → List Position
 lost_in l = positions_in (records_of Lost (length l)) l
 
 -- the rounds that stand at a place
-abbrev pub rounds_found : List ℕ → Place → ℕ
-rounds_found l (At i) = rounds_at (records_of Lost (length l)) l i
-rounds_found l Nowhere = 0
+abbrev pub rounds_found : List ℕ → Option ℕ → ℕ
+rounds_found l (Some i) = rounds_at (records_of Lost (length l)) l i
+rounds_found l None = 0
 
 -- fewer than n
-abbrev pub sooner_found : List ℕ → ℕ → Place → Bool
-sooner_found l n (At i) = ltb (rounds_at (records_of Lost (length l)) l i) n
-sooner_found l n Nowhere = false
+abbrev pub sooner_found : List ℕ → ℕ → Option ℕ → Bool
+sooner_found l n (Some i) = ltb (rounds_at (records_of Lost (length l)) l i) n
+sooner_found l n None = false
 
 module _ (l : List ℕ) where
   -- the positions of the losses from record k on
   abbrev positions_from : ℕ → ℕ → List Position
   positions_from k n = map (position_at (records_of Lost (length l)) l) (count k n)
 
-  pub loss_listed : (p : Position) → any (λ x. same p x.position) (losses_in l) ≡ is_found (place_of p (lost_in l))
+  pub loss_listed : (p : Position) → any (λ x. same p x.position) (losses_in l) ≡ is_some (place_of p (lost_in l))
   unfolding losses_in positions_in loss_at
   loss_listed p =
       let c = count 0 (records_of Lost (length l)).count in
@@ -135,7 +130,7 @@ module _ (l : List ℕ) where
 
 pub accepted_by-places : (g : Rules) (t : Task) (s : Standing) (l : List ℕ)
     → accepted_by g t s l
-    ≡ (is_found (place_of t.start (positions_in (records_of s (length l)) l))
+    ≡ (is_some (place_of t.start (positions_in (records_of s (length l)) l))
     && all (record_holds g t s l) (count 0 (records_of s (length l)).count))
 unfolding kept_accepted losses_accepted positions_in losses_in
 accepted_by-places g t Kept l =

@@ -1,5 +1,5 @@
 -- The checker's answers, from the records of a certificate by their places.
-use Rattle.std.specs.Prelude.{ℕ, Bool, ◌&&◌, List, length, eqb}
+use Rattle.std.specs.Prelude.{ℕ, Bool, ◌&&◌, List, length, eqb, Result}
 use Rattle.fra.specs.Rules.{Rules, rules_of}
 use Rattle.fra.specs.Game.{lost_at_once}
 use Rattle.fra.specs.declared.Task.{Task}
@@ -7,8 +7,8 @@ use Rattle.fra.specs.declared.Game.{Game}
 use Rattle.outcome.specs.Certificate.{Loss}
 use Rattle.outcome.specs.Verdicts.{verdict_of, kind_of}
 use Rattle.outcome.specs.Check.{holds, kept_accepted, loss_holds, losses_accepted, start_rounds, judge_list}
-use Rattle.outcome.specs.declared.Check.{Check}
-use Rattle.outcome.specs.declared.Check.TheVariants.{Accepted}
+use Rattle.task.specs.declared.Refusal.{Refusal}
+use Rattle.outcome.specs.declared.Acceptance.{Acceptance}
 use Rattle.outcome.specs.declared.Standing.{Standing}
 use Rattle.outcome.specs.declared.Standing.TheVariants.{Kept, Lost}
 use Rattle.listing.specs.Listing.{position_at}
@@ -34,7 +34,7 @@ rounds_by t Kept l = 0
 rounds_by t Lost l = start_rounds t (losses_in l)
 
 -- to a certificate whose first record is of this kind: well formed or 13, and then accepted or 14
-abbrev pub list_answer : Game → Task → Standing → List ℕ → Check
+abbrev pub list_answer : Game → Task → Standing → List ℕ → Result Acceptance Refusal
 list_answer g t s l =
     judge_list (formed t (kind_of (verdict_of g s)) (records_of s (length l)) l) (accepted_by (rules_of g) t s l)
-    (Accepted (verdict_of g s) (rounds_by t s l))
+    (record { verdict = verdict_of g s; rounds = rounds_by t s l })

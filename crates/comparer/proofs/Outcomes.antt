@@ -3,7 +3,7 @@ use Prim.Native.Nat.{ℕ, ◌+◌, ◌*◌, ◌/◌, ◌^◌, ◌≤◌, ◌<◌
 use mathlib.Core.Path.{◌≡◌, refl, sym, ◌∙◌, ap, subst}
 use mathlib.Core.Bool.{Bool, true, false}
 use mathlib.Core.List.{List, ◌++◌}
-use mathlib.Core.Option.{Option, none, some}
+use Rattle.std.specs.Prelude.{Option, None, Some, Result, Ok, Err}
 use native.Mathlib.Omega.{arith}
 use lib.ListN.{length, take, drop, length-drop, length-append}
 use lib.Seq.{take-append_seam, drop-append_seam}
@@ -15,13 +15,13 @@ use Rattle.fra.specs.Valid.{Valid}
 use Rattle.fra.specs.declared.Task.{Task}
 use Rattle.fra_laws.proofs.Tests.{clash}
 use Rattle.task.specs.TaskFile.{read_task}
-use Rattle.task.specs.declared.Answer.TheVariants.{Read, Refused as Unread}
+use Rattle.task.specs.declared.Refusal.{Refusal}
+use Rattle.task.specs.declared.Refusal.TheVariants.{TableTooSmall, BufferTooSmall}
 use Rattle.outcome.specs.Bytes.{all_ones, cleared, then_zeros}
 use Rattle.outcome.specs.Verdicts.{Contest}
 use Rattle.outcome.specs.Certificate.{rounds_or_never, entries, certificate_by}
 use Rattle.outcome.specs.Compare.{Outcome, capacity, decided, refused_late, judge, compare_task, compare_read, compare}
 use Rattle.outcome.specs.declared.Comparison.{Comparison}
-use Rattle.outcome.specs.declared.Comparison.TheVariants.{Refused}
 use Rattle.outcome_laws.proofs.WrittenLists.{rounds-least}
 use Rattle.listing.specs.Widths.{entry_width}
 use Rattle.listing.specs.Listing.{of_table, Searchable}
@@ -34,7 +34,7 @@ use Rattle.table_laws.specs.Table.{keys, KeysBelow, with_keys, laid_out}
 use Rattle.table_laws.proofs.KeyColumn.{keys_length}
 use Rattle.table_laws.proofs.LayingOut.{laid_out-length}
 use Rattle.comparer_explore.specs.ExploreAnswers.{explored_in, Explores}
-use Rattle.comparer_explore.specs.declared.Explored.TheVariants.{Count, TooMany}
+use Rattle.key_set.specs.declared.Full.{Full}
 use Rattle.comparer_rank_laws.specs.EntryRows.{rows}
 use Rattle.fra_laws.proofs.LegalPositions.{most_positions}
 use Rattle.comparer_rank_laws.proofs.FewPositions.{few_positions}
@@ -44,7 +44,7 @@ use Rattle.comparer_certify_laws.specs.Marking.{rounds_for}
 use Rattle.comparer_certify_laws.proofs.RankedTables.{ranked-searchable, start-rounds}
 use Rattle.comparer_certify.specs.RecordFields.{contest_in}
 use Rattle.comparer_certify.specs.CertifyAnswers.{Ranked, certificate_in, answer_of, buffer_after, Certifies}
-use Rattle.comparer_certify.specs.declared.Certified.TheVariants.{Length, TooLong}
+use Rattle.comparer_certify.specs.declared.TooLong.{TooLong}
 use Rattle.comparer.specs.Outcomes.{Found, rounds_from, Gives}
 
 -- ── What depends on the table's length alone ──
@@ -72,32 +72,33 @@ judge-long c t a b buffer e = by (ltb (length buffer) (length written)) refl
 
 -- ── Exploring ──
 
-many_outnumber : (room n : ℕ) → TooMany ≡ explored_in room n → ltb room n ≡ true
+many_outnumber : (room n : ℕ) {e : Full} → Err e ≡ explored_in room n → ltb room n ≡ true
 unfolding explored_in
-many_outnumber room n h = by (ltb room n) refl
+many_outnumber room n {e} h = by (ltb room n) refl
   where
     by : (b : Bool) → ltb room n ≡ b → ltb room n ≡ true
     by true e = e
-    by false e =
-        let f : explored_in room n ≡ Count n = rw (e, explored_in) refl in
+    by false f =
+        let g : explored_in room n ≡ Ok n = rw (f, explored_in) refl in
         clash (cc)
 
-count_fits : (room n m : ℕ) → Count m ≡ explored_in room n → (m ≡ n) × (ltb room n ≡ false)
+count_fits : (room n m : ℕ) → Ok m ≡ explored_in room n → (m ≡ n) × (ltb room n ≡ false)
 unfolding explored_in
 count_fits room n m h = by (ltb room n) refl
   where
     by : (b : Bool) → ltb room n ≡ b → (m ≡ n) × (ltb room n ≡ false)
     by true e =
-        let f : explored_in room n ≡ TooMany = rw (e, explored_in) refl in
+        let f : explored_in room n ≡ Err (record {}) = rw (e, explored_in) refl in
         clash (cc)
     by false e =
-        let f : explored_in room n ≡ Count n = rw (e, explored_in) refl in
+        let f : explored_in room n ≡ Ok n = rw (e, explored_in) refl in
         let s : m ≡ n = cc in
         (s, e)
 
 module _ (b : List ℕ) {old new : List ℕ} where
   -- 11: the positions reached outnumber the table's entries
-  pub too_many : (buffer : List ℕ) → Explores (rules_in b) (task_in b) old TooMany new → Gives (compare_task (contest_in b) (task_in b) old buffer) (Refused 11) (cleared new) buffer
+  pub too_many : {e : Full} (buffer : List ℕ) → Explores (rules_in b) (task_in b) old (Err e) new
+      → Gives (compare_task (contest_in b) (task_in b) old buffer) (Err TableTooSmall) (cleared new) buffer
   unfolding compare_task refused_late cleared
   too_many buffer h =
       let e = many_outnumber (capacity old) (length (reached_in b)) h.answer in
@@ -107,7 +108,7 @@ module _ (b : List ℕ) {old new : List ℕ} where
         certificates = rw (e, compare_task) refl;
       }
 
-  module _ {n : ℕ} (h : Explores (rules_in b) (task_in b) old (Count n) new) where
+  module _ {n : ℕ} (h : Explores (rules_in b) (task_in b) old (Ok n) new) where
     fits : (n ≡ length (reached_in b)) × (ltb (capacity old) (length (reached_in b)) ≡ false)
     fits = count_fits (capacity old) (length (reached_in b)) n h.answer
 
@@ -120,7 +121,7 @@ module _ (b : List ℕ) {old new : List ℕ} where
         record { counted = e; room = omega arith; found = h.found n refl; stored = h.stored n refl }
 
     -- what follows depends on the table's length alone
-    pub found-judged : {r : Comparison} {table : List ℕ} {certificate : List ℕ} (mid buffer : List ℕ) → length mid ≡ length old
+    pub found-judged : {r : Result Comparison Refusal} {table : List ℕ} {certificate : List ℕ} (mid buffer : List ℕ) → length mid ≡ length old
         → Gives (judge (contest_in b) (task_in b) mid buffer) r table certificate
         → Gives (compare_task (contest_in b) (task_in b) old buffer) r table certificate
     unfolding compare_task
@@ -131,12 +132,14 @@ module _ (b : List ℕ) {old new : List ℕ} where
 -- ── Reading ──
 
 -- a file that is turned back changes no buffer
-pub unread : {n : ℕ} (c : Contest) (file table buffer : List ℕ) → (read_task file).answer ≡ Unread n → Gives (compare c file table buffer) (Refused n) table buffer
+pub unread : {e : Refusal} (c : Contest) (file table buffer : List ℕ) → read_task file ≡ Err e
+    → Gives (compare c file table buffer) (Err e) table buffer
 unfolding compare compare_read
-unread {n} c file table buffer e = rw e record { answers = refl; tables = refl; certificates = refl }
+unread c file table buffer f = rw f record { answers = refl; tables = refl; certificates = refl }
 
-pub read-compared : {r : Comparison} {table' buffer' : List ℕ} (c : Contest) (file table buffer : List ℕ) → (read_task file).answer ≡ Read
-    → Gives (compare_task c (read_task file).task table buffer) r table' buffer'
+pub read-compared : {t : Task} {r : Result Comparison Refusal} {table' buffer' : List ℕ} (c : Contest) (file table buffer : List ℕ)
+    → read_task file ≡ Ok t
+    → Gives (compare_task c t table buffer) r table' buffer'
     → Gives (compare c file table buffer) r table' buffer'
 unfolding compare compare_read
 read-compared c file table buffer e g = rw e g
@@ -154,8 +157,8 @@ rounds_few : {t : Task} → Valid 6 t → (g : Rules) → length (reached g t) <
 rounds_few {t} valid g few = by (rounds g t t.start) refl
   where
     by : (o : Option ℕ) → rounds g t t.start ≡ o → rounds_from (rounds_or_never o) ≡ o
-    by none e = refl
-    by (some n) e =
+    by None e = refl
+    by (Some n) e =
         let (r, b) = rounds-least valid g n e in
         let f = ne_eqb n all_ones (λ s. omega arith) in
         rw f refl
@@ -227,41 +230,41 @@ module _ {b : List ℕ} (index : Index b) where
 
   module _ {table buffer table' buffer' : List ℕ} where
     -- 12: the certificate is longer than its buffer
-    pub too_long_lem : Certifies (certificate_in b) table buffer TooLong table' buffer'
-        → Gives (judge (contest_in b) t table buffer) (Refused 12) (cleared table') buffer'
+    pub too_long_lem : {e : TooLong} → Certifies (certificate_in b) table buffer (Err e) table' buffer'
+        → Gives (judge (contest_in b) t table buffer) (Err BufferTooSmall) (cleared table') buffer'
     unfolding judge refused_late answer_of buffer_after
-    too_long_lem h = by (ltb (length buffer) (length (certificate_in b))) refl
+    too_long_lem {e} h = by (ltb (length buffer) (length (certificate_in b))) refl
       where
         by : (test : Bool) → ltb (length buffer) (length (certificate_in b)) ≡ test
-            → Gives (judge (contest_in b) t table buffer) (Refused 12) (cleared table') buffer'
-        by true e =
+            → Gives (judge (contest_in b) t table buffer) (Err BufferTooSmall) (cleared table') buffer'
+        by true f =
             record {
-              answers = rw (e, judge) refl;
-              tables = rw (e, judge) (ap cleared h.restored);
-              certificates = rw (e, judge) (rw (e, buffer_after) at h.written);
+              answers = rw (f, judge) refl;
+              tables = rw (f, judge) (ap cleared h.restored);
+              certificates = rw (f, judge) (rw (f, buffer_after) at h.written);
             }
-        by false e =
-            let f : TooLong ≡ Length (length (certificate_in b)) = rw (e, answer_of) at h.answers in
+        by false f =
+            let g : ◌≡◌ {A = Result ℕ TooLong} (Err e) (Ok (length (certificate_in b))) = rw (f, answer_of) at h.answers in
             clash (cc)
 
     -- the verdict, with its table and certificate
     pub judged : {n m r : ℕ} → Ranked b n table → r ≡ rounds_or_never (rounds g t t.start)
-        → Certifies (certificate_in b) table buffer (Length m) table' buffer'
-        → Gives (judge (contest_in b) t table buffer) (decided (contest_in b) n (rounds_from r) m)
+        → Certifies (certificate_in b) table buffer (Ok m) table' buffer'
+        → Gives (judge (contest_in b) t table buffer) (Ok (decided (contest_in b) n (rounds_from r) m))
         (then_zeros (take (n * entry_width) table') table')
         buffer'
     unfolding judge answer_of buffer_after
     judged {n} {m} {r} ranked is h = by (ltb (length buffer) (length (certificate_in b))) refl
       where
         by : (test : Bool) → ltb (length buffer) (length (certificate_in b)) ≡ test
-            → Gives (judge (contest_in b) t table buffer) (decided (contest_in b) n (rounds_from r) m)
+            → Gives (judge (contest_in b) t table buffer) (Ok (decided (contest_in b) n (rounds_from r) m))
             (then_zeros (take (n * entry_width) table') table')
             buffer'
         by true e =
-            let f : Length m ≡ TooLong = rw (e, answer_of) at h.answers in
+            let f : ◌≡◌ {A = Result ℕ TooLong} (Ok m) (Err (record {})) = rw (e, answer_of) at h.answers in
             clash (cc)
         by false e =
-            let f : Length m ≡ Length (length (certificate_in b)) = rw (e, answer_of) at h.answers in
+            let f : ◌≡◌ {A = Result ℕ TooLong} (Ok m) (Ok (length (certificate_in b))) = rw (e, answer_of) at h.answers in
             let long : m ≡ length (certificate_in b) = cc in
             let begun =
             taken (entries g t) ranked.rest table (n * entry_width) (rw ranked.counted wide) ranked.begins in

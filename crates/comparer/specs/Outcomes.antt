@@ -1,10 +1,10 @@
 -- What the comparer's parts leave in the table, and what a call gives: the answer, the table and the certificate buffer at exit are
 -- an outcome's.
-use Rattle.std.specs.Prelude.{ℕ, ◌*◌, ◌≤◌, ◌≡◌, cond, List, map, length, eqb}
-use mathlib.Core.Option.{Option, none, some}
+use Rattle.std.specs.Prelude.{ℕ, ◌*◌, ◌≤◌, ◌≡◌, cond, List, map, length, eqb, Option, None, Some, Result}
 use Rattle.fra.specs.Reach.{reached}
 use Rattle.outcome.specs.Bytes.{all_ones}
 use Rattle.outcome.specs.Compare.{Outcome, judge, compare_task}
+use Rattle.task.specs.declared.Refusal.{Refusal}
 use Rattle.outcome.specs.declared.Comparison.{Comparison}
 use Rattle.listing.specs.Widths.{entry_width}
 use Rattle.game_index.specs.Reading.{task_in, rules_in}
@@ -30,9 +30,9 @@ judged_in b = judge (contest_in b) (task_in b)
 
 -- rounds as the table has them: "FF FF FF FF if never lost"
 abbrev pub rounds_from : ℕ → Option ℕ
-rounds_from w = cond (eqb w all_ones) none (some w)
+rounds_from w = cond (eqb w all_ones) None (Some w)
 
-pub record Gives (o : Outcome) (answer : Comparison) (table certificate : List ℕ) : Type 0 where
+pub record Gives (o : Outcome) (answer : Result Comparison Refusal) (table certificate : List ℕ) : Type 0 where
   pub answers : answer ≡ o.answer
   pub tables : table ≡ o.table
   pub certificates : certificate ≡ o.certificate

@@ -2,7 +2,7 @@
 use Prim.Native.Nat.{ℕ, ◌^◌, ◌<◌}
 use mathlib.Core.Path.{◌≡◌, refl, sym, ◌∙◌, ap}
 use mathlib.Core.List.{List}
-use mathlib.Core.Option.{Option, none, some}
+use Rattle.std.specs.Prelude.{Option, None, Some}
 use native.Mathlib.Omega.{arith}
 use lib.ListN.{length}
 use Rattle.fra.specs.Rules.{Rules}
@@ -49,8 +49,8 @@ module _ {b : List ℕ} (index : Index b) where
     never_lost e = by (rounds g t t.start) refl
       where
         by : (o : Option ℕ) → rounds g t t.start ≡ o → records_in b Kept n table ≡ certificate_in b
-        by none d = rw (d, ranked.counted, ranked.begins) (kept-records valid g few ranked.rest _)
-        by (some k) d =
+        by None d = rw (d, ranked.counted, ranked.begins) (kept-records valid g few ranked.rest _)
+        by (Some k) d =
             let s : k ≡ all_ones = ap rounds_or_never (sym d) ∙ sym start_by ∙ e in
             absurd (omega (arith, few, (rounds-least valid g k d).1))
 
@@ -65,8 +65,8 @@ module _ {b : List ℕ} (index : Index b) where
     lost k e d = by (rounds g t t.start) refl
       where
         by : (o : Option ℕ) → rounds g t t.start ≡ o → LostStart k
-        by none f = absurd (d (sym e ∙ start_by ∙ ap rounds_or_never f))
-        by (some j) f =
+        by None f = absurd (d (sym e ∙ start_by ∙ ap rounds_or_never f))
+        by (Some j) f =
             let s : k ≡ j = sym e ∙ start_by ∙ ap rounds_or_never f in
             rw s
             (record {

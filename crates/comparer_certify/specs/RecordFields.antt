@@ -1,11 +1,10 @@
 -- The bytes of an attack in a record, and the records of entries.
-use Rattle.std.specs.Prelude.{ℕ, List, [], ◌∷◌}
-use Rattle.outcome.specs.Certificate.{side_number, case_number}
+use Rattle.std.specs.Prelude.{ℕ, List, [], ◌∷◌, Option, Some, None}
+use Rattle.fra.specs.AttackNumbers.{side_number, case_number}
+use Rattle.fra.specs.declared.Attack.{Attack}
 use Rattle.outcome.specs.Verdicts.{Contest, contest_of, verdict_of, kind_of}
 use Rattle.outcome.specs.declared.Standing.{Standing}
 use Rattle.game_index.specs.Reading.{task_in, game_in, rules_in}
-use Rattle.game_wins.specs.declared.Win.{Win}
-use Rattle.game_wins.specs.declared.Win.TheVariants.{By, Nobody}
 use Rattle.comparer_certify_laws.specs.EntryRecords.{record_at, records_of}
 
 -- side, edge and case
@@ -13,9 +12,9 @@ abbrev pub attack_width : ℕ
 attack_width = 3
 
 -- "Rounds 0 has side, edge and case 0"
-abbrev pub attack_bytes : Win → List ℕ
-attack_bytes (By a) = side_number a.side ∷ a.edge ∷ case_number 6 a.case ∷ []
-attack_bytes Nobody = 0 ∷ 0 ∷ 0 ∷ []
+abbrev pub attack_bytes : Option Attack → List ℕ
+attack_bytes (Some a) = side_number a.side ∷ a.edge ∷ case_number 6 a.case ∷ []
+attack_bytes None = 0 ∷ 0 ∷ 0 ∷ []
 
 -- the game of an index with its two verdicts
 abbrev pub contest_in : List ℕ → Contest

@@ -6,7 +6,7 @@ use mathlib.Core.Logic.{◌⊎◌, inl, inr, ⊎_elim}
 use mathlib.Core.Bool.{Bool, true, false, ◌||◌, false≢true}
 use mathlib.Core.List.Memᴰ
 use mathlib.Core.List.{List, [], ◌∷◌}
-use mathlib.Core.Option.{Option, none, some}
+use Rattle.std.specs.Prelude.{Option, None, Some}
 use native.Mathlib.Omega.{arith}
 use native.Mathlib.Decide.{dec_lt}
 use lib.ListN.{length}
@@ -77,23 +77,23 @@ module _ {r : ℕ} {t : Task} (valid : Valid r t) (g : Rules) where
 
   -- ── Where attacks lead ──
 
-  pub leads-chosen : (p : Position) (k : ℕ) → rank_of p ≡ some (suc k) → leads p ≡ attack_leads t p (chosen g t k p)
+  pub leads-chosen : (p : Position) (k : ℕ) → rank_of p ≡ Some (suc k) → leads p ≡ attack_leads t p (chosen g t k p)
   unfolding loss_step attack_of
   leads-chosen p k e = rw e
 
-  pub leads_nowhere : (p q : Position) → (rank_of p ≡ none) ⊎ (rank_of p ≡ some 0) → q ∈ leads p → ⊥
+  pub leads_nowhere : (p q : Position) → (rank_of p ≡ None) ⊎ (rank_of p ≡ Some 0) → q ∈ leads p → ⊥
   unfolding loss_step attack_of attack_leads
   leads_nowhere p q (inl e) m = Memᴰ.not-nil (rw e at m)
   leads_nowhere p q (inr e) m = Memᴰ.not-nil (rw e at m)
 
   -- from k + 1 rounds to at most k
-  pub leads_down : (p q : Position) (k j : ℕ) → rank_of p ≡ some (suc k) → q ∈ leads p → rank_of q ≡ some j → j ≤ k
+  pub leads_down : (p q : Position) (k j : ℕ) → rank_of p ≡ Some (suc k) → q ∈ leads p → rank_of q ≡ Some j → j ≤ k
   unfolding attack_leads chosen wins
   leads_down p q k j e m d = by (chosen g t k p) refl (subst (λ (l : List Position). q ∈ l) (leads-chosen p k e) m)
     where
       by : (o : Option Attack) → chosen g t k p ≡ o → q ∈ attack_leads t p o → j ≤ k
-      by none f n = absurd (Memᴰ.not-nil n)
-      by (some a) f n =
+      by None f n = absurd (Memᴰ.not-nil n)
+      by (Some a) f n =
           let (i, u, v) = Memᴰ.of_map (after t p a) (replies t p a) n in
           let won = all-at (λ i. lost_within g t k (after t p a i)) (first_found (wins g t k p) (attacks g t p) a f).1 u in
           rank-least g t k (rank-some g t (length (reached g t)) q j d).0 (rw v at won)
@@ -104,17 +104,17 @@ module _ {r : ℕ} {t : Task} (valid : Valid r t) (g : Rules) where
   pub record Marks (k : ℕ) (M : Position → Bool) : Type 0 where
     pub sound : (p : Position) → M p ≡ true → Closure leads t.start p
     pub start : M t.start ≡ true
-    pub complete : (p q : Position) (j : ℕ) → M p ≡ true → rank_of p ≡ some j → k < j → q ∈ leads p → M q ≡ true
+    pub complete : (p q : Position) (j : ℕ) → M p ≡ true → rank_of p ≡ Some j → k < j → q ∈ leads p → M q ≡ true
 
   -- the start alone is marked
-  pub marks-start : (n : ℕ) → rank_of t.start ≡ some n → Marks n (also t.start (λ p. false))
+  pub marks-start : (n : ℕ) → rank_of t.start ≡ Some n → Marks n (also t.start (λ p. false))
   marks-start n e =
       record {
         sound = λ p h. rw (only p h) begin;
         start = also-has (λ p. false) t.start;
         complete =
             λ p q j h d b m.
-            let c : some n ≡ some j = sym e ∙ ap rank_of (sym (only p h)) ∙ d in
+            let c : Some n ≡ Some j = sym e ∙ ap rank_of (sym (only p h)) ∙ d in
             let s : n ≡ j = cc in
             absurd (omega arith);
       }
@@ -123,7 +123,7 @@ module _ {r : ℕ} {t : Task} (valid : Valid r t) (g : Rules) where
       only p h = ⊎_elim (λ e. absurd (false≢true e)) (λ d. d) (also_elim (λ p. false) p t.start h)
 
   -- what the attack of a marked position of k + 1 rounds leads to is marked too
-  pub marks-more : (k : ℕ) (M : Position → Bool) (p : Position) → Marks (suc k) M → M p ≡ true → rank_of p ≡ some (suc k)
+  pub marks-more : (k : ℕ) (M : Position → Bool) (p : Position) → Marks (suc k) M → M p ≡ true → rank_of p ≡ Some (suc k)
       → Marks (suc k) (also_all (leads p) M)
   marks-more k M p marks h e =
       record {
@@ -138,13 +138,13 @@ module _ {r : ℕ} {t : Task} (valid : Valid r t) (g : Rules) where
 
   -- for this position, if it is marked and has k rounds, what its attack leads to is marked
   abbrev pub Done : ℕ → (Position → Bool) → Position → Type 0
-  Done k M p = M p ≡ true → rank_of p ≡ some k → (q : Position) → q ∈ leads p → M q ≡ true
+  Done k M p = M p ≡ true → rank_of p ≡ Some k → (q : Position) → q ∈ leads p → M q ≡ true
 
   pub done_here : (k : ℕ) (M : Position → Bool) (p : Position) → Done k (also_all (leads p) M) p
   done_here k M p h e q m = all-has (leads p) M q m
 
   -- that stays so: the attack of a position of k + 1 rounds leads to none of these
-  pub done_still : (k : ℕ) (M : Position → Bool) (p x : Position) → rank_of p ≡ some (suc k) → Done (suc k) M x
+  pub done_still : (k : ℕ) (M : Position → Bool) (p x : Position) → rank_of p ≡ Some (suc k) → Done (suc k) M x
       → Done (suc k) (also_all (leads p) M) x
   done_still k M p x e done h d q m =
       ⊎_elim (λ c. all_keeps (leads p) M q (done c d q m)) (λ n. absurd (omega (arith, leads_down p x k (suc k) e n d)))
@@ -152,9 +152,9 @@ module _ {r : ℕ} {t : Task} (valid : Valid r t) (g : Rules) where
 
   -- ── A start that is lost ──
 
-  module _ (n : ℕ) (lost : rounds g t t.start ≡ some n) where
+  module _ (n : ℕ) (lost : rounds g t t.start ≡ Some n) where
     -- attacks lead to positions reached that are lost
-    pub led_lost : {p : Position} → Closure leads t.start p → (k : ℕ) × (p ∈ reached g t) × (rank_of p ≡ some k)
+    pub led_lost : {p : Position} → Closure leads t.start p → (k : ℕ) × (p ∈ reached g t) × (rank_of p ≡ Some k)
     led_lost {p} c =
         let (k, (m, e)) = listed-lost valid g n lost p ((listed_computes valid g).complete p c) in
         (k, m, e)
@@ -164,14 +164,14 @@ module _ {r : ℕ} {t : Task} (valid : Valid r t) (g : Rules) where
         → Marks k M
     marks-fewer k M marks done = record { sound = marks.sound; start = marks.start; complete = complete }
       where
-        complete : (p q : Position) (j : ℕ) → M p ≡ true → rank_of p ≡ some j → k < j → q ∈ leads p → M q ≡ true
+        complete : (p q : Position) (j : ℕ) → M p ≡ true → rank_of p ≡ Some j → k < j → q ∈ leads p → M q ≡ true
         complete p q j h e b m = at (dec_lt (suc k) j)
           where
             at : Dec (suc k < j) → M q ≡ true
             at (yes c) = marks.complete p q j h e c m
             at (no c) =
                 let s : j ≡ suc k = omega arith in
-                done p (led_lost (marks.sound p h)).1 h (e ∙ ap {B = Option ℕ} some s) q m
+                done p (led_lost (marks.sound p h)).1 h (e ∙ ap {B = Option ℕ} Some s) q m
 
     -- down to no rounds, those marked are the positions of the certificate
     pub marks-listed : (M : Position → Bool) → Marks 0 M → keep M (reached g t) ≡ listed valid g
@@ -189,6 +189,6 @@ module _ {r : ℕ} {t : Task} (valid : Valid r t) (g : Rules) where
         closed p q h m = by (rank_of p) refl
           where
             by : (o : Option ℕ) → rank_of p ≡ o → M q ≡ true
-            by none e = absurd (leads_nowhere p q (inl e) m)
-            by (some zero) e = absurd (leads_nowhere p q (inr e) m)
-            by (some (suc j)) e = marks.complete p q (suc j) h e (omega arith) m
+            by None e = absurd (leads_nowhere p q (inl e) m)
+            by (Some zero) e = absurd (leads_nowhere p q (inr e) m)
+            by (Some (suc j)) e = marks.complete p q (suc j) h e (omega arith) m

@@ -7,7 +7,7 @@ use mathlib.Core.Logic.{◌↔◌}
 use mathlib.Core.Bool.{Bool, true, false, or-false}
 use mathlib.Core.List.Memᴰ
 use mathlib.Core.List.{List, [], ◌∷◌, ◌++◌}
-use mathlib.Core.Option.{Option, none, some}
+use Rattle.std.specs.Prelude.{Option, None, Some}
 use native.Mathlib.Omega.{arith}
 use native.Mathlib.Numerals.{add-one}
 use lib.ListN.{length, get_or}
@@ -34,7 +34,6 @@ use Rattle.listing.specs.Widths.{entry_width, entry_rounds}
 use Rattle.listing.specs.Words.{put_word}
 use Rattle.listing.specs.Listing.{of_table, position_at, positions_in}
 use Rattle.listing.specs.Lookup.{place_of}
-use Rattle.listing.specs.declared.Place.TheVariants.{At}
 use Rattle.game_replies.proofs.SameWinner.{winner-same}
 use Rattle.game_wins.specs.Judgement.{judged, lost_at}
 use Rattle.game_wins.specs.declared.Test.TheVariants.{Sooner}
@@ -56,12 +55,12 @@ module _ (g : Rules) (t : Task) (n k i : ℕ) (table : List ℕ) where
   abbrev entry : Position
   entry = position_at (of_table n) table i
 
-  pub led_by : {a : Attack} → attack_by g t n table k entry ≡ some a
-      → led_from g t n k i table ≡ marked_all n (attack_leads t entry (some a)) table
+  pub led_by : {a : Attack} → attack_by g t n table k entry ≡ Some a
+      → led_from g t n k i table ≡ marked_all n (attack_leads t entry (Some a)) table
   unfolding led_from
   led_by e = rw e
 
-  pub led_nowhere : attack_by g t n table k entry ≡ none → led_from g t n k i table ≡ table
+  pub led_nowhere : attack_by g t n table k entry ≡ None → led_from g t n k i table ≡ table
   unfolding led_from attack_leads marked_all
   led_nowhere e = rw e
 
@@ -126,7 +125,7 @@ module _ {t : Task} (valid : Valid 6 t) (g : Rules) (few : length (reached g t) 
     place : ℕ
     within : place < N
     is : get_or (reached g t) place z ≡ q
-    found : place_of q (positions_in (of_table N) (marked_table M)) ≡ At place
+    found : place_of q (positions_in (of_table N) (marked_table M)) ≡ Some place
     holds : rounds_of (marked_table M) place ≡ word_of M q
 
   located : (M : Position → Bool) {q : Position} → q ∈ reached g t → Located M q
@@ -184,8 +183,8 @@ module _ {t : Task} (valid : Valid 6 t) (g : Rules) (few : length (reached g t) 
       ∙ level_judges g t k N q b (omega arith)
 
   -- the table finds the attack of a position by its rounds
-  pub attack-found : (M : Position → Bool) (p : Position) (k : ℕ) → p ∈ reached g t → rank_of valid g p ≡ some k
-      → attack_by g t N (marked_table M) k p ≡ attack_of g t p (some k)
+  pub attack-found : (M : Position → Bool) (p : Position) (k : ℕ) → p ∈ reached g t → rank_of valid g p ≡ Some k
+      → attack_by g t N (marked_table M) k p ≡ attack_of g t p (Some k)
   unfolding attack_by attack_of
   attack-found M p zero m e = refl
   attack-found M p (suc k) m e =
@@ -195,7 +194,7 @@ module _ {t : Task} (valid : Valid 6 t) (g : Rules) (few : length (reached g t) 
       ∙ sym (chosen-winner g t k p))
 
   -- what the attack of an entry of k rounds leads to is marked
-  led_from_lem : (M : Position → Bool) (i k : ℕ) → i < N → rank_of valid g (get_or (reached g t) i z) ≡ some k
+  led_from_lem : (M : Position → Bool) (i k : ℕ) → i < N → rank_of valid g (get_or (reached g t) i z) ≡ Some k
       → ((q : Position) → q ∈ leads valid g (get_or (reached g t) i z) → q ∈ reached g t)
       → led_from g t N k i (marked_table M) ≡ marked_table (also_all (leads valid g (get_or (reached g t) i z)) M)
   unfolding led_from loss_step
@@ -209,7 +208,7 @@ module _ {t : Task} (valid : Valid 6 t) (g : Rules) (few : length (reached g t) 
 
   -- ── Passes ──
 
-  module _ (n : ℕ) (lost : rounds g t t.start ≡ some n) where
+  module _ (n : ℕ) (lost : rounds g t t.start ≡ Some n) where
     module _ (k : ℕ) (few_more : suc k ≤ N) where
       -- after i entries of a pass
       record Passed (i : ℕ) (table : List ℕ) : Type 0 where
@@ -223,7 +222,7 @@ module _ {t : Task} (valid : Valid 6 t) (g : Rules) (few : length (reached g t) 
         abbrev p : Position
         p = get_or l i z
 
-        test : (eqb (rounds_of (marked_table M) i) (suc k * 2 + 1) ≡ true) ↔ ((rank_of valid g p ≡ some (suc k)) × (M p ≡ true))
+        test : (eqb (rounds_of (marked_table M) i) (suc k * 2 + 1) ≡ true) ↔ ((rank_of valid g p ≡ Some (suc k)) × (M p ≡ true))
         test = rw (marked-rounds M i b) (marked_is (rank_of valid g p) (M p) (suc k) (omega arith))
 
         entry-step : (c : Bool) → eqb (rounds_of (marked_table M) i) (suc k * 2 + 1) ≡ c

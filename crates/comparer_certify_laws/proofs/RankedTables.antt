@@ -3,7 +3,7 @@ use Prim.Native.Nat.{ℕ, ◌/◌, ◌^◌, ◌<◌}
 use mathlib.Core.Path.{◌≡◌, refl, sym, ◌∙◌, ap, subst}
 use mathlib.Core.Bool.{Bool, false}
 use mathlib.Core.List.{List, ◌++◌, flat_map}
-use mathlib.Core.Option.{Option, none, some}
+use Rattle.std.specs.Prelude.{Option, None, Some}
 use native.Mathlib.Omega.{arith}
 use lib.ListN.{length, get_or}
 use lib.Dec.{eqb}
@@ -111,10 +111,10 @@ module _ {t : Task} (valid : Valid 6 t) (g : Rules) (few : length (reached g t) 
 
   -- ── Positions of an attack ──
 
-  module _ (n : ℕ) (lost : rounds g t t.start ≡ some n) where
+  module _ (n : ℕ) (lost : rounds g t t.start ≡ Some n) where
     -- the record of a marked position
-    record_of : (M : Position → Bool) (p : Position) (k : ℕ) → p ∈ reached g t → rank_of valid g p ≡ some k
-        → loss_with p (some (word_of valid g few rest M p / 2))
+    record_of : (M : Position → Bool) (p : Position) (k : ℕ) → p ∈ reached g t → rank_of valid g p ≡ Some k
+        → loss_with p (Some (word_of valid g few rest M p / 2))
         (attack_by g t N (marked_table valid g few rest M) (word_of valid g few rest M p / 2) p)
         ≡ loss_of g t N p
     unfolding loss_of
@@ -128,11 +128,11 @@ module _ {t : Task} (valid : Valid 6 t) (g : Rules) (few : length (reached g t) 
     mark-read M marks p = by (rank_of valid g p) refl
       where
         by : (o : Option ℕ) → rank_of valid g p ≡ o → is_marked (word_of valid g few rest M p) ≡ M p
-        by none e =
+        by None e =
             ap (λ (o : Option ℕ). is_marked (marked_rounds o (M p))) e
             ∙ is_marked_never (M p)
             ∙ sym (fails_unless (M p) (λ h. let d = (led_lost valid g n lost (marks.sound p h)).2 in clash (cc)))
-        by (some k) e =
+        by (Some k) e =
             ap (λ (o : Option ℕ). is_marked (marked_rounds o (M p))) e ∙ is_marked-marked k (M p) (few_rounds valid g few rest p k e)
 
     lost-records : (kind : ℕ) (M : Position → Bool) → Marks valid g 0 M

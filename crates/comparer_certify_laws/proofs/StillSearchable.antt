@@ -7,6 +7,7 @@ use native.Mathlib.Omega.{arith}
 use lib.ListN.{length}
 use lib.Dec.{eqb}
 use lib.Seq.{length-sets}
+use Rattle.std.specs.Prelude.{Option, Some, None}
 use Rattle.fra.specs.Rules.{Rules}
 use Rattle.fra.specs.Position.{Rising}
 use Rattle.fra.specs.declared.Position.{Position}
@@ -15,8 +16,6 @@ use Rattle.outcome.specs.Bytes.{word}
 use Rattle.listing.specs.Widths.{entry_width, entry_rounds}
 use Rattle.listing.specs.Listing.{of_table, positions_in, Fitting, Searchable}
 use Rattle.listing.specs.Lookup.{place_of}
-use Rattle.listing.specs.declared.Place.{Place}
-use Rattle.listing.specs.declared.Place.TheVariants.{At, Nowhere}
 use Rattle.listing.proofs.PositionNumbers.{positions-length}
 use Rattle.listing.proofs.Placing.{place-within}
 use Rattle.comparer_rank_laws.proofs.PositionsKept.{positions-kept}
@@ -24,7 +23,7 @@ use Rattle.comparer_certify_laws.specs.MarkedRounds.{doubled, with_mark}
 use Rattle.comparer_certify_laws.specs.Marking.{rounds_of, changed_at, changed, marked_at, marked, marked_all, led_from, passed, marking, prepared}
 
 -- a look-up finds one of the n entries
-pub found-entry : (n : ℕ) (table : List ℕ) (q : Position) {i : ℕ} → place_of q (positions_in (of_table n) table) ≡ At i → i < n
+pub found-entry : (n : ℕ) (table : List ℕ) (q : Position) {i : ℕ} → place_of q (positions_in (of_table n) table) ≡ Some i → i < n
 found-entry n table q {i} e =
     omega (arith, place-within q (positions_in (of_table n) table) i e, positions-length (of_table n) table)
 
@@ -65,9 +64,9 @@ pub kept-marked : (n : ℕ) (q : Position) (t : List ℕ) → Kept n t (marked n
 unfolding marked
 kept-marked n q t = at (place_of q (positions_in (of_table n) t))
   where
-    at : (p : Place) → Kept n t (marked_at t p)
-    at (At i) = kept-changed_at with_mark n i t
-    at Nowhere = kept_refl n t
+    at : (p : Option ℕ) → Kept n t (marked_at t p)
+    at (Some i) = kept-changed_at with_mark n i t
+    at None = kept_refl n t
 
 pub kept-all : (n : ℕ) (qs : List Position) (t : List ℕ) → Kept n t (marked_all n qs t)
 unfolding marked_all

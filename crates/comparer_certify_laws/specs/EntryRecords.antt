@@ -1,7 +1,6 @@
 -- The records of a certificate, by the entries of a table.
-use Rattle.std.specs.Prelude.{ℕ, ◌/◌, Bool, eqb}
+use Rattle.std.specs.Prelude.{ℕ, ◌/◌, Bool, eqb, Some}
 use mathlib.Core.List.{List, flat_map}
-use mathlib.Core.Option.{some}
 use Rattle.fra.specs.Lists.{keep, count}
 use Rattle.fra.specs.Rules.{Rules}
 use Rattle.fra.specs.declared.Task.{Task}
@@ -28,7 +27,7 @@ record_at g t Kept kind n table i = kept_record kind (position_at (of_table n) t
 record_at g t Lost kind n table i =
     let k = rounds_at (of_table n) table i / 2 in
     let p = position_at (of_table n) table i in
-    loss_record kind (loss_with p (some k) (attack_by g t n table k p))
+    loss_record kind (loss_with p (Some k) (attack_by g t n table k p))
 
 unfoldable pub records_of : Rules → Task → Standing → ℕ → ℕ → List ℕ → List ℕ
 records_of g t s kind n table = flat_map (record_at g t s kind n table) (listed_places s n table)

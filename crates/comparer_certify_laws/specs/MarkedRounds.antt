@@ -1,6 +1,5 @@
 -- The rounds of an entry while marks stand: doubled, and 1 more where the entry is marked. "FF FF FF FF" stays as it is.
-use Rattle.std.specs.Prelude.{ℕ, ◌+◌, ◌*◌, ◌-◌, ◌/◌, ◌%◌, ◌^◌, Bool, cond, not, ◌&&◌, eqb}
-use mathlib.Core.Option.{Option, none, some}
+use Rattle.std.specs.Prelude.{ℕ, ◌+◌, ◌*◌, ◌-◌, ◌/◌, ◌%◌, ◌^◌, Bool, cond, not, ◌&&◌, eqb, Option, None, Some}
 use Rattle.outcome.specs.Bytes.{all_ones}
 
 -- as many rounds no position has
@@ -22,5 +21,5 @@ is_marked w = eqb (w % 2) 1 && not (eqb w all_ones)
 
 -- the rounds of a position, if it is lost, with or without a mark
 unfoldable pub marked_rounds : Option ℕ → Bool → ℕ
-marked_rounds none m = all_ones
-marked_rounds (some n) m = cond m (n * 2 + 1) (n * 2)
+marked_rounds None m = all_ones
+marked_rounds (Some n) m = cond m (n * 2 + 1) (n * 2)

@@ -1,6 +1,5 @@
 -- Marks in a table: those entries that are found and whose bytes are changed, one after another.
-use Rattle.std.specs.Prelude.{ℕ, zero, suc, ◌+◌, ◌*◌, Bool, cond, List, [], ◌∷◌, eqb}
-use mathlib.Core.Option.{Option, none}
+use Rattle.std.specs.Prelude.{ℕ, zero, suc, ◌+◌, ◌*◌, Bool, cond, List, [], ◌∷◌, eqb, Option, None, Some}
 use Rattle.fra.specs.Rules.{Rules}
 use Rattle.fra.specs.declared.Position.{Position}
 use Rattle.fra.specs.declared.Task.{Task}
@@ -11,8 +10,6 @@ use Rattle.listing.specs.Widths.{entry_width, entry_rounds}
 use Rattle.listing.specs.Words.{put_word}
 use Rattle.listing.specs.Listing.{of_table, position_at, rounds_at, positions_in}
 use Rattle.listing.specs.Lookup.{place_of}
-use Rattle.listing.specs.declared.Place.{Place}
-use Rattle.listing.specs.declared.Place.TheVariants.{At, Nowhere}
 use Rattle.game_replies.specs.Winner.{winner}
 use Rattle.game_wins.specs.Judgement.{judged}
 use Rattle.game_wins.specs.declared.Test.TheVariants.{Sooner}
@@ -34,18 +31,18 @@ changed f zero table = table
 changed f (suc n) table = changed_at f n (changed f n table)
 
 -- those of a position among the first n entries
-abbrev pub rounds_in : List ℕ → Place → ℕ
-rounds_in table (At i) = rounds_of table i
-rounds_in table Nowhere = all_ones
+abbrev pub rounds_in : List ℕ → Option ℕ → ℕ
+rounds_in table (Some i) = rounds_of table i
+rounds_in table None = all_ones
 
 unfoldable pub rounds_for : ℕ → Position → List ℕ → ℕ
 rounds_for n q table = rounds_in table (place_of q (positions_in (of_table n) table))
 
 -- ── Marks ──
 
-abbrev pub marked_at : List ℕ → Place → List ℕ
-marked_at table (At i) = changed_at with_mark i table
-marked_at table Nowhere = table
+abbrev pub marked_at : List ℕ → Option ℕ → List ℕ
+marked_at table (Some i) = changed_at with_mark i table
+marked_at table None = table
 
 -- the entry of a position, among the first n, is marked
 unfoldable pub marked : ℕ → Position → List ℕ → List ℕ
@@ -63,7 +60,7 @@ lost_before table n k = judged table (record { records = of_table n; test = Soon
 
 -- the attack of a position of k rounds, by a table in which rounds are doubled
 unfoldable pub attack_by : Rules → Task → ℕ → List ℕ → ℕ → Position → Option Attack
-attack_by g t n table k p = cond (eqb k 0) none (winner g t (lost_before table n (k * 2)) p)
+attack_by g t n table k p = cond (eqb k 0) None (winner g t (lost_before table n (k * 2)) p)
 
 -- what the attack of entry i, which has k rounds, leads to is marked
 unfoldable pub led_from : Rules → Task → ℕ → ℕ → ℕ → List ℕ → List ℕ

@@ -10,7 +10,6 @@ use Rattle.fra.specs.Model.{edge_of}
 use Rattle.fra.specs.Position.{legal}
 use Rattle.fra.specs.declared.Position.{Position}
 use Rattle.fra.specs.declared.Side.TheVariants.{Left, Right}
-use Rattle.game_moves.specs.declared.rounds.Target.{Target}
 use Rattle.game_index.specs.Layout.{edge_places}
 use Rattle.game_index.specs.Reading.{model_in, task_in}
 use Rattle.game_index.specs.Ranges.{state_range, tag_range}
@@ -23,7 +22,7 @@ use Rattle.table_keys.specs.declared.Radix.{Radix}
 use Rattle.comparer_explore_laws.specs.HalfRounds.{joined_by}
 use Rattle.comparer_explore_laws.specs.PartnerSums.{word_of}
 use Rattle.comparer_explore_laws.proofs.Undropped.{left_keeps, left-takes, right_keeps}
-use Rattle.comparer_explore.specs.HalfRounds.{Undropped, HalfOf, Summed, RangeSummed}
+use Rattle.comparer_explore.specs.HalfRounds.{Undropped, HalfOf, SummedBy, RangeSummed}
 use Rattle.comparer_explore.specs.declared.expand.Half.{Half}
 
 module _ {b : List ℕ} (index : Index b) (p : Position) (legal-p : legal 6 (task_in b) p ≡ true) where
@@ -49,9 +48,9 @@ module _ {b : List ℕ} (index : Index b) (p : Position) (legal-p : legal 6 (tas
             greatest = valid.greatest;
           }
 
-  pub range_summed : {x : Radix} {l : Target} {half : Half} (tag : ℕ) → HalfOf x p l half
+  pub range_summed : {x : Radix} {half : Half} (tag : ℕ) → HalfOf x p half
       → RangeSummed b x half (tag_range (model_in b Right) p.right tag)
-  range_summed {x} {l} {half} tag h = record { places = place; sums = summed }
+  range_summed {x} {half} tag h = record { places = place; sums = summed }
     where
       reply : (j : ℕ) → (tag_range (model_in b Right) p.right tag).first ≤ j
           → j < (tag_range (model_in b Right) p.right tag).end
@@ -66,10 +65,11 @@ module _ {b : List ℕ} (index : Index b) (p : Position) (legal-p : legal 6 (tas
 
       summed : (j : ℕ) → (tag_range (model_in b Right) p.right tag).first ≤ j
           → j < (tag_range (model_in b Right) p.right tag).end
-          → half.keeps ≡ true → drops (model_in b Right) (edge_of (model_in b Right) j) ≡ false
-          → Summed x half (transition_of (model_in b Right) j).target
-      summed j first end keeps d =
-          let u = h.whole keeps in
+          → drops (model_in b Right) (edge_of (model_in b Right) j) ≡ false
+          → SummedBy x half (transition_of (model_in b Right) j).target
+      summed j first end d rest has =
+          let u = h.whole rest has in
+          let of = h.rest rest has in
           let r = (transition_of (model_in b Right) j).target in
           let valid = (index-model index Right).valid in
           let other = reply j first end in
@@ -77,12 +77,12 @@ module _ {b : List ℕ} (index : Index b) (p : Position) (legal-p : legal 6 (tas
           let same =
           ap₂ (λ (a : ℕ) (m : List ℕ). joined_by r.set a r.register 1 m) (h.halves.register ∙ u.register)
           (h.halves.partners ∙ u.partners)
-          ∙ right_keeps index p legal-p j other.exists other.starts d l.register in
+          ∙ right_keeps index p legal-p j other.exists other.starts d half.edge.target.register in
           record {
-            long = (h.rest keeps).long;
+            long = of.long;
             digit = digit;
-            small = (h.rest keeps).small r.register digit;
+            small = of.small r.register digit;
             sum =
-                ap (λ (m : List ℕ). word_of (take x.registers m) + get_or half.rest.adds r.register 0) same
-                ∙ (h.rest keeps).sum r.register digit;
+                ap (λ (m : List ℕ). word_of (take x.registers m) + get_or rest.adds r.register 0) same
+                ∙ of.sum r.register digit;
           }

@@ -11,6 +11,7 @@ use Rattle.fra.specs.declared.Position.{Position}
 use Rattle.fra.specs.Rules.{Rules}
 use Rattle.fra.specs.declared.Task.{Task}
 use Rattle.fra_laws.proofs.Tests.{clash}
+use Rattle.std.specs.Prelude.{Result, Ok, Err}
 use Rattle.outcome.specs.Compare.{capacity}
 use Rattle.listing.specs.Widths.{entry_width}
 use Rattle.game_index.specs.Reading.{task_in, rules_in}
@@ -19,25 +20,24 @@ use Rattle.table_keys.specs.Keys.{key_of, key_count, radix_of}
 use Rattle.table_laws.specs.Sorted.{Permuted}
 use Rattle.table_laws.specs.Table.{keys}
 use Rattle.key_set_laws.specs.Stored.{Stored}
+use Rattle.key_set.specs.declared.Full.{Full}
 use Rattle.comparer_explore_laws.specs.Exploring.{Exploring}
 use Rattle.comparer_explore_laws.proofs.Exploring.{exploring_count, exploring_keys}
 use Rattle.comparer_explore.specs.ExploreAnswers.{explored_in, Explores}
-use Rattle.comparer_explore.specs.declared.Explored.{Explored}
-use Rattle.comparer_explore.specs.declared.Explored.TheVariants.{Count, TooMany}
 
-too_many_count : {n : ℕ} → TooMany ≡ Count n → ⊥
-too_many_count e = clash (cc)
+full_ok : {n : ℕ} {full : Full} → ◌≡◌ {A = Result ℕ Full} (Err full) (Ok n) → ⊥
+full_ok e = clash (cc)
 
 -- all positions found are expanded
 pub explores_all : {b : List ℕ} {n done : ℕ} {new : List ℕ} (old : List ℕ) → Index b
     → Exploring (rules_in b) (task_in b) (length old) n done new
     → n ≤ done
-    → Explores (rules_in b) (task_in b) old (Count n) new
+    → Explores (rules_in b) (task_in b) old (Ok n) new
 unfolding explored_in capacity
 explores_all {b} {n} {done} {new} old index e l =
     record {
       answer =
-          rw (le-ltb (capacity old) (length all) (omega (arith, e.stored.room, e.long, count)), explored_in) (ap Count count);
+          rw (le-ltb (capacity old) (length all) (omega (arith, e.stored.room, e.long, count)), explored_in) (ap Ok count);
       long = e.long;
       found = λ k d.
           let same : n ≡ k = cc in
@@ -55,20 +55,20 @@ explores_all {b} {n} {done} {new} old index e l =
     count = exploring_count index ended
 
 -- more positions are reached than there are entries
-pub explores_too_many : {g : Rules} {t : Task} {old new : List ℕ} → capacity old < length (reached g t)
+pub explores_too_many : {g : Rules} {t : Task} {old new : List ℕ} (full : Full) → capacity old < length (reached g t)
     → length new ≡ length old
-    → Explores g t old TooMany new
+    → Explores g t old (Err full) new
 unfolding explored_in
-explores_too_many {g} {t} {old} h long =
+explores_too_many {g} {t} {old} full h long =
     record {
       answer = rw (lt-ltb (capacity old) (length (reached g t)) h, explored_in);
       long = long;
-      found = λ n d. absurd (too_many_count d);
-      stored = λ n d. absurd (too_many_count d);
+      found = λ n d. absurd (full_ok d);
+      stored = λ n d. absurd (full_ok d);
     }
 
 -- only the length of the table at entry counts
-pub explores_from : {g : Rules} {t : Task} {old mid new : List ℕ} (r : Explored) → length mid ≡ length old
+pub explores_from : {g : Rules} {t : Task} {old mid new : List ℕ} (r : Result ℕ Full) → length mid ≡ length old
     → Explores g t mid r new
     → Explores g t old r new
 unfolding capacity

@@ -11,10 +11,11 @@ use Rattle.comparer_explore_laws.proofs.HalfRounds.{half_matched}
 use Rattle.comparer_explore.specs.HalfRounds.{Halves, joined_to}
 use Rattle.comparer_explore.specs.declared.expand.Half.{Half}
 
-pub both_halves : (p : Position) (half : Half) (size : ℕ) (l r : Target) → Halves p l half
-    → joined_to half size l.state r ≡ moved_to p size l r
+pub both_halves : (p : Position) (half : Half) (size : ℕ) (r : Target) → Halves p half
+    → joined_to half size r ≡ moved_to p size half.edge.target r
 unfolding joined_to moved_to
-both_halves p half size l r h =
+both_halves p half size r h =
+    let l = half.edge.target in
     let same =
     ap₂ (λ (a : ℕ) (m : List ℕ). joined_by r.set a r.register 1 m) h.register h.partners
     ∙ half_matched l.set r.set l.register r.register 1 p.partners (omega arith) in

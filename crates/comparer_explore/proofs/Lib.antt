@@ -5,3 +5,5 @@ pub mod HalfRounds
 mod Sources
 mod PartnerDigits
 mod EdgeSums
+mod SumsFrom
+mod RoundDigits

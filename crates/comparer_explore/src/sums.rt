@@ -27,14 +27,6 @@ pub struct Rest {
     pub adds: [u32; 8],
 }
 
-impl Rest {
-    pub const NONE: Rest = Rest {
-        word: 0,
-        place: 0,
-        adds: [0; 8],
-    };
-}
-
 // What a partner counts that so many others follow.
 pub fn place_of(others: u8) -> u32
     requires { others ≤ 6 }
@@ -43,42 +35,40 @@ pub fn place_of(others: u8) -> u32
     1 << (PARTNER_BITS * others)
 }
 
-// They are made once for a position, the last register first.
-pub fn sums_of(radix: Radix, p: Position) -> Sums
-    requires { Sized radix × Fits radix p }
-    ensures { SumsOf radix p result }
-{
-    let partners = p.partners;
-    let mut adds: [u32; 8] = [0; 8];
-    let mut word: u32 = 0;
-    let mut place: u32 = 1;
-    let mut i = radix.registers;
-    while 0 < i {
-        i -= 1;
-        let x = partners[i as usize];
-        let part = (x as u32) * place;
-        word += part;
-        adds[x as usize] += part;
-        place *= PARTNER_BASE;
+impl Sums {
+    // They are made once for a position, the last register first.
+    pub fn of(radix: Radix, p: Position) -> Self
+        requires { Sized radix × Fits radix p }
+        ensures { SumsOf radix p result }
+    {
+        let mut adds: [u32; 8] = [0; 8];
+        let mut word: u32 = 0;
+        let mut place: u32 = 1;
+        for i in (0..radix.registers).rev() {
+            let x = p.partners[i as usize];
+            let part = (x as u32) * place;
+            word += part;
+            adds[x as usize] += part;
+            place *= PARTNER_BASE;
+        }
+        Sums { word, adds }
     }
-    Sums { word, adds }
-}
 
-// And once for a left edge that drops no register, and writes register a.
-pub fn rest_of(radix: Radix, p: Position, sums: Sums, a: u8) -> Rest
-    requires sized { Sized radix × Fits radix p }
-    requires sums_of { SumsOf radix p sums × (1 ≤ a) × (a ≤ radix.registers) }
-    ensures { RestOf radix p a result }
-{
-    let partners = p.partners;
-    let x = partners[(a - 1) as usize];
-    let place = place_of(radix.registers - a);
-    let part = (x as u32) * place;
-    let mut adds = sums.adds;
-    adds[x as usize] -= part;
-    Rest {
-        word: sums.word - part,
-        place,
-        adds,
+    // And once for a left edge that drops no register, and writes register a.
+    pub fn rest(self, radix: Radix, p: Position, a: u8) -> Rest
+        requires sized { Sized radix × Fits radix p }
+        requires sums_of { SumsOf radix p self × (1 ≤ a) × (a ≤ radix.registers) }
+        ensures { RestOf radix p a result }
+    {
+        let x = p.partners[(a - 1) as usize];
+        let place = place_of(radix.registers - a);
+        let part = (x as u32) * place;
+        let mut adds = self.adds;
+        adds[x as usize] -= part;
+        Rest {
+            word: self.word - part,
+            place,
+            adds,
+        }
     }
 }

@@ -2,7 +2,7 @@
 use Prim.Native.Nat.{ℕ, ◌+◌}
 use mathlib.Core.Path.{◌≡◌}
 use mathlib.Core.List.{List, ◌∷◌, map}
-use mathlib.Core.Option.{some}
+use Rattle.std.specs.Prelude.{Some}
 use Rattle.fra.specs.Game.{after}
 use Rattle.fra.specs.declared.Position.{Position}
 use Rattle.fra.specs.declared.Task.{Task}
@@ -24,6 +24,6 @@ module _ (t : Task) (p : Position) (a : Attack) where
   leads-next e k {j} {x} h = rw (h.first, h.target, e, after_is t p a j)
 
   -- from edge 0 on, that is where the attack leads
-  pub leads-all : leads_from 0 ≡ attack_leads t p (some a)
+  pub leads-all : leads_from 0 ≡ attack_leads t p (Some a)
   unfolding attack_leads
   leads-all = rw (all-replies t p a)

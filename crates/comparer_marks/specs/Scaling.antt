@@ -1,9 +1,6 @@
 -- What is done to the rounds of all entries.
-use Rattle.std.specs.Prelude.{ℕ}
-use Rattle.comparer_certify_laws.specs.MarkedRounds.{doubled, halved}
-use Rattle.comparer_marks.specs.declared.Scale.{Scale}
-use Rattle.comparer_marks.specs.declared.Scale.TheVariants.{Double, Halve}
+use Rattle.std.specs.Prelude.{ℕ, ◌^◌, ◌<◌, ◌≡◌}
 
-abbrev pub scaled : Scale → ℕ → ℕ
-scaled Double w = doubled w
-scaled Halve w = halved w
+-- what calls may return, by what `post` says of rounds and a result, is what the function gives
+abbrev pub Computes : (ℕ → ℕ → Type 0) → (ℕ → ℕ) → Type 0
+Computes post f = (w r : ℕ) → w < 2 ^ 32 → post w r → r ≡ f w

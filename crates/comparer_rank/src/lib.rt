@@ -10,12 +10,12 @@ ghost use Rattle.outcome.specs.Certificate.{entries};
 ghost use Rattle.listing.specs.Widths.{entry_width};
 ghost use Rattle.listing.specs.Listing.{of_table, Fitting, Searchable};
 ghost use Rattle.game_index.specs.Reading.{task_in, rules_in};
-ghost use Rattle.game_index.specs.Writing.{Index};
 ghost use Rattle.comparer_rank.specs.RankPasses.{ranks_in, Begins, Ready, Leveled, gains, loses, marked_if};
 
+use game_index::TaskIndex;
 use game_index::layout::SIZE;
 use game_state_pairs::SIZE as PAIRS;
-use game_wins::{Judge, Test, Win, first_win};
+use game_wins::{Judge, Test, first_win};
 use listing::words::put_word;
 use listing::{Listing, position_at, rounds_at};
 use outcome::layout::{ENTRY, ENTRY_ROUNDS, NEVER};
@@ -32,15 +32,12 @@ fn mark_at_once(table: &mut [u8], n: usize, index: &[u8; SIZE], i: usize)
 }
 
 // Pass 0: rounds 0 where the end marks lose at once.
-fn pass_zero(table: &mut [u8], n: usize, index: &[u8; SIZE])
-    requires index { Index index.now }
-    requires begins { Begins index.now (λ p. all_ones) n table.old }
-    ensures { Leveled index.now 0 n table.old table.new }
+fn pass_zero(table: &mut [u8], n: usize, index: &TaskIndex)
+    requires { Begins index.now.bytes (λ p. all_ones) n table.old }
+    ensures { Leveled index.now.bytes 0 n table.old table.new }
 {
-    let mut i = 0;
-    while i < n {
-        mark_at_once(table, n, index, i);
-        i += 1;
+    for i in 0..n {
+        mark_at_once(table, n, &index.bytes, i);
     }
 }
 
@@ -48,15 +45,14 @@ fn pass_zero(table: &mut [u8], n: usize, index: &[u8; SIZE])
 fn mark(
     table: &mut [u8],
     n: usize,
-    index: &[u8; SIZE],
+    index: &TaskIndex,
     losing: &[u8; PAIRS],
     worth: &[u8; PAIRS],
     k: u32,
     i: usize,
 ) -> bool
-    requires searchable { Searchable (of_table n) table.old × (i < n) }
-    requires index { Index index.now }
-    ensures value { result ≡ gains index.now table.old n losing.now worth.now k i }
+    requires { Searchable (of_table n) table.old × (i < n) }
+    ensures value { result ≡ gains index.now.bytes table.old n losing.now worth.now k i }
     ensures table_after { table.new ≡ marked_if result table.old i k }
 {
     let records = Listing::of_table(n);
@@ -69,9 +65,9 @@ fn mark(
     }
     let test = Test::Sooner(k);
     let win = first_win(table, Judge { records, test }, losing, index, p);
-    let Win::By(_) = win else {
+    if win.is_none() {
         return false;
-    };
+    }
     put_word(table, i * ENTRY + ENTRY_ROUNDS, k);
     true
 }
@@ -80,32 +76,28 @@ fn mark(
 fn pass(
     table: &mut [u8],
     n: usize,
-    index: &[u8; SIZE],
+    index: &TaskIndex,
     losing: &[u8; PAIRS],
     worth: &[u8; PAIRS],
     k: u32,
 ) -> bool
-    requires index { Index index.now }
-    requires ready { Ready index.now k n table.old losing.now worth.now }
-    ensures value { result ≡ ranks_in index.now k }
-    ensures leveled { Leveled index.now k n table.old table.new }
+    requires { Ready index.now.bytes k n table.old losing.now worth.now }
+    ensures value { result ≡ ranks_in index.now.bytes k }
+    ensures leveled { Leveled index.now.bytes k n table.old table.new }
 {
     let mut marked = false;
-    let mut i = 0;
-    while i < n {
+    for i in 0..n {
         if mark(table, n, index, losing, worth, k, i) {
             marked = true;
         }
-        i += 1;
     }
     marked
 }
 
 // Gives the n positions reached, which the table begins with, their rounds.
-pub fn rank(table: &mut [u8], n: usize, index: &[u8; SIZE])
-    requires index { Index index.now }
-    requires begins { Begins index.now (λ p. all_ones) n table.old }
-    ensures { table.new ≡ entries (rules_in index.now) (task_in index.now) ++ drop (n * entry_width) table.old }
+pub fn rank(table: &mut [u8], n: usize, index: &TaskIndex)
+    requires { Begins index.now.bytes (λ p. all_ones) n table.old }
+    ensures { table.new ≡ entries (rules_in index.now.bytes) (task_in index.now.bytes) ++ drop (n * entry_width) table.old }
 {
     pass_zero(table, n, index);
     let mut losing = comparer_state_pairs::lost_pairs(table, n, 0, 1);
@@ -116,7 +108,7 @@ pub fn rank(table: &mut [u8], n: usize, index: &[u8; SIZE])
         let next = k + 1;
         let lost = comparer_state_pairs::lost_pairs(table, n, k, next);
         losing = comparer_state_pairs::lost_pairs(table, n, 0, next);
-        worth = comparer_state_pairs::sources(index, &lost);
+        worth = comparer_state_pairs::sources(&index.bytes, &lost);
         k = next;
     }
 }

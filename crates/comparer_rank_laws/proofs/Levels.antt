@@ -5,7 +5,7 @@ use mathlib.Core.Path.{◌≡◌, refl, sym, ◌∙◌, ap, subst}
 use mathlib.Core.Logic.{inr, ⊎_elim}
 use mathlib.Core.Bool.{Bool, true, false, cond, ◌&&◌}
 use mathlib.Core.List.{List}
-use mathlib.Core.Option.{Option, none, some}
+use Rattle.std.specs.Prelude.{Option, None, Some}
 use native.Mathlib.Omega.{arith}
 use native.Mathlib.Decide.{dec_le}
 use lib.ListN.{length}
@@ -36,14 +36,14 @@ module _ (g : Rules) (t : Task) where
 
   -- ── The next rank ──
 
-  pub rank-kept : (k : ℕ) (p : Position) (j : ℕ) → rank g t k p ≡ some j → rank g t (suc k) p ≡ some j
+  pub rank-kept : (k : ℕ) (p : Position) (j : ℕ) → rank g t k p ≡ Some j → rank g t (suc k) p ≡ Some j
   rank-kept k p j e =
       let (r, b) = rank-some g t k p j e in
       (rank-exactly g t (suc k) p j).1 (r, omega arith)
 
   -- a position not lost within k rounds is lost within k + 1 if an attack wins within k
-  pub rank-won : (k : ℕ) (p : Position) (a : Attack) → rank g t k p ≡ none → chosen g t k p ≡ some a
-      → rank g t (suc k) p ≡ some (suc k)
+  pub rank-won : (k : ℕ) (p : Position) (a : Attack) → rank g t k p ≡ None → chosen g t k p ≡ Some a
+      → rank g t (suc k) p ≡ Some (suc k)
   unfolding chosen wins
   rank-won k p a e f =
       let (m, w) = first_found (wins g t k p) (attacks g t p) a f in
@@ -56,17 +56,17 @@ module _ (g : Rules) (t : Task) where
       )
 
   -- not lost within n rounds: no rank is found
-  unlost_unranked : (n : ℕ) (p : Position) → lost_within g t n p ≡ false → rank g t n p ≡ none
+  unlost_unranked : (n : ℕ) (p : Position) → lost_within g t n p ≡ false → rank g t n p ≡ None
   unlost_unranked n p e = step (rank g t n p) refl
     where
-      step : (o : Option ℕ) → rank g t n p ≡ o → rank g t n p ≡ none
-      step none d = d
-      step (some j) d =
+      step : (o : Option ℕ) → rank g t n p ≡ o → rank g t n p ≡ None
+      step None d = d
+      step (Some j) d =
           let (r, b) = rank-some g t n p j d in
           absurd (not_both _ (lost_within-more g t j n p b r.lost) e)
 
   -- and is not if none does
-  pub rank_open : (k : ℕ) (p : Position) → rank g t k p ≡ none → chosen g t k p ≡ none → rank g t (suc k) p ≡ none
+  pub rank_open : (k : ℕ) (p : Position) → rank g t k p ≡ None → chosen g t k p ≡ None → rank g t (suc k) p ≡ None
   unfolding chosen wins
   rank_open k p e f =
       unlost_unranked (suc k) p
@@ -88,8 +88,8 @@ module _ (g : Rules) (t : Task) where
   ranked-rank k p b h = step (rank g t k p) refl (eqb-true (level g t k p) k h)
     where
       step : (o : Option ℕ) → rank g t k p ≡ o → rounds_or_never (rank g t k p) ≡ k → HasRank g t p k
-      step none e d = absurd (omega (arith, sym (ap rounds_or_never e) ∙ d))
-      step (some j) e d = subst (HasRank g t p) (sym (ap rounds_or_never e) ∙ d) (rank-some g t k p j e).0
+      step None e d = absurd (omega (arith, sym (ap rounds_or_never e) ∙ d))
+      step (Some j) e d = subst (HasRank g t p) (sym (ap rounds_or_never e) ∙ d) (rank-some g t k p j e).0
 
   -- where k is not 0, a position ranked k + 1 leads to one ranked k
   pub ranked_successor : (k : ℕ) (p : Position) → 1 ≤ k → suc k < all_ones → ranked g t (suc k) p ≡ true
@@ -104,8 +104,8 @@ module _ (g : Rules) (t : Task) where
   level-small k p b = step (rank g t k p) refl
     where
       step : (o : Option ℕ) → rank g t k p ≡ o → rounds_or_never (rank g t k p) < 2 ^ 32
-      step none e = rw e (omega arith)
-      step (some j) e = rw e (omega (arith, (rank-some g t k p j e).1))
+      step None e = rw e (omega arith)
+      step (Some j) e = rw e (omega (arith, (rank-some g t k p j e).1))
 
   -- what the level of k rounds or of more says of k rounds: so a table that holds both levels judges replies rightly
   pub level_judges : (k n : ℕ) (q : Position) → k ≤ n → k < all_ones → ltb (level g t n q) (suc k) ≡ lost_within g t k q
@@ -113,9 +113,9 @@ module _ (g : Rules) (t : Task) where
   level_judges k n q b c = step (rank g t n q) refl
     where
       step : (o : Option ℕ) → rank g t n q ≡ o → ltb (rounds_or_never (rank g t n q)) (suc k) ≡ lost_within g t k q
-      step none e =
+      step None e =
           rw (e, not_lost_within-fewer g t k n q b (rank_none g t n q e)) (le-ltb all_ones (suc k) (omega arith))
-      step (some j) e =
+      step (Some j) e =
           let (r, d) = rank-some g t n q j e in
           rw e
           (elim (dec_le j k) [
@@ -132,9 +132,9 @@ module _ (g : Rules) (t : Task) where
       step : (o : Option ℕ) → rank g t k p ≡ o → (w : Option Attack) → chosen g t k p ≡ w
           → eqb (rounds_or_never (rank g t (suc k) p)) (suc k)
           ≡ eqb (rounds_or_never (rank g t k p)) all_ones && is_found (chosen g t k p)
-      step none e none f = rw (rank_open k p e f, e, f) (ne_eqb all_ones (suc k) (λ d. omega arith))
-      step none e (some a) f = rw (rank-won k p a e f, e, f) (eq-eqb (suc k) (suc k) refl)
-      step (some j) e w f =
+      step None e None f = rw (rank_open k p e f, e, f) (ne_eqb all_ones (suc k) (λ d. omega arith))
+      step None e (Some a) f = rw (rank-won k p a e f, e, f) (eq-eqb (suc k) (suc k) refl)
+      step (Some j) e w f =
           let (r, d) = rank-some g t k p j e in
           rw (rank-kept k p j e, e, ne_eqb j (suc k) (λ c. omega arith), ne_eqb j all_ones (λ c. omega arith))
 
@@ -146,12 +146,12 @@ module _ (g : Rules) (t : Task) where
       step : (b : Bool) → ranked g t (suc k) p ≡ b → (o : Option ℕ) → rank g t k p ≡ o
           → level g t (suc k) p ≡ cond (ranked g t (suc k) p) (suc k) (level g t k p)
       step true e o f = rw e (eqb-true (level g t (suc k) p) (suc k) e)
-      step false e (some j) f = rw (e, rank-kept k p j f, f)
-      step false e none f = ap rounds_or_never (still (chosen g t k p) refl ∙ sym f) ∙ rw e
+      step false e (Some j) f = rw (e, rank-kept k p j f, f)
+      step false e None f = ap rounds_or_never (still (chosen g t k p) refl ∙ sym f) ∙ rw e
         where
-          still : (w : Option Attack) → chosen g t k p ≡ w → rank g t (suc k) p ≡ none
-          still none d = rank_open k p f d
-          still (some a) d =
+          still : (w : Option Attack) → chosen g t k p ≡ w → rank g t (suc k) p ≡ None
+          still None d = rank_open k p f d
+          still (Some a) d =
               absurd (eqb-false (level g t (suc k) p) (suc k) e (ap rounds_or_never (rank-won k p a f d)))
 
   -- before the first round only end marks lose
@@ -184,9 +184,9 @@ module _ (g : Rules) (t : Task) where
             (rank-ranked (suc k) q (record { lost = d; not_before = λ j b. not_lost_within-fewer g t j k q (omega arith) e })))
 
         step : (o : Option ℕ) → rank g t (suc k) p ≡ o → rank g t (suc k) p ≡ rank g t (length l) p
-        step none e =
+        step None e =
             let unlost = not_lost_within-fewer g t k (suc k) p (omega arith) (rank_none g t (suc k) p e) in
             e ∙ sym ((rank_never g t l closed p m).1 (settled_never_lost g t l closed k settled p m unlost))
-        step (some j) e =
+        step (Some j) e =
             let (r, b) = rank-some g t (suc k) p j e in
             e ∙ sym ((rank-exactly g t (length l) p j).1 (r, rank-at-most-length g t l closed p m j r))

@@ -5,6 +5,7 @@ use mathlib.Core.List.{List}
 use native.Mathlib.Omega.{arith}
 use native.Mathlib.Decide.{dec_lt}
 use lib.ListN.{length, get_or}
+use Rattle.std.specs.Prelude.{Some}
 use Rattle.fra.specs.Lists.{◌∈◌}
 use Rattle.fra.specs.Position.{Rising}
 use Rattle.fra.specs.declared.Position.{Position}
@@ -12,7 +13,6 @@ use Rattle.fra_laws.proofs.Tests.{not_both}
 use Rattle.fra_laws.proofs.Order.{before_irreflexive}
 use Rattle.fra_laws.proofs.FixedWidth.{member_place}
 use Rattle.listing.specs.Lookup.{place_of}
-use Rattle.listing.specs.declared.Place.TheVariants.{At}
 use Rattle.listing.proofs.PositionNumbers.{rising-at}
 use Rattle.listing.proofs.Placing.{place_at}
 
@@ -28,7 +28,7 @@ module _ (l : List Position) (z : Position) (rises : Rising l) where
       step (no d) (yes o) = absurd (apart j i o b (sym e))
       step (no d) (no o) = omega arith
 
-  pub place_found : {q : Position} → q ∈ l → (i : ℕ) × (i < length l) × (get_or l i z ≡ q) × (place_of q l ≡ At i)
+  pub place_found : {q : Position} → q ∈ l → (i : ℕ) × (i < length l) × (get_or l i z ≡ q) × (place_of q l ≡ Some i)
   place_found {q} m =
       let (i, b, e) = member_place z m in
       (i, b, e, place_at q l i z b e (λ j c d. apart j i c b (d ∙ sym e)))

@@ -2,13 +2,11 @@
 // comparison by a game, which the crate `text` gives, on standard output.
 #![tactic(auto)]
 
-ghost use Rattle.std.specs.Prelude.{◌≤◌};
-ghost use Rattle.text.specs.LentLine.{line_room};
-
 use fra::Game;
 use outcome::Comparison;
 use outcome::layout::ENTRY;
 use std::io;
+use task::Refusal;
 use text::LINE;
 
 // "a task of at most 4,096 bytes"
@@ -19,20 +17,15 @@ const ENTRIES: usize = 4000;
 
 const LONGEST_CERTIFICATE: usize = 64000;
 
-// Writes the first n bytes of a line.
-fn print(rt: &impl Print, line: [u8; LINE], n: usize) -> io::Result<()>
-    requires { n ≤ line_room }
-{
+type Answer = Result<Comparison, Refusal>;
+
+fn print_line(rt: &impl Print, answer: Answer, certificate: &[u8], i: usize) -> io::Result<()> {
+    let mut line = [0u8; LINE];
+    let n = text::put_line(answer, certificate, i, &mut line);
     rt.write_all(&line[..n])
 }
 
-fn print_line(rt: &impl Print, answer: Comparison, certificate: &[u8], i: usize) -> io::Result<()> {
-    let mut line = [0u8; LINE];
-    let n = text::put_line(answer, certificate, i, &mut line);
-    print(rt, line, n)
-}
-
-fn print_lines(rt: &impl Print, answer: Comparison, certificate: &[u8]) -> io::Result<()> {
+fn print_lines(rt: &impl Print, answer: Answer, certificate: &[u8]) -> io::Result<()> {
     let count = text::line_count(answer, certificate);
     for i in 0..count {
         print_line(rt, answer, certificate, i)?;
@@ -43,7 +36,7 @@ fn print_lines(rt: &impl Print, answer: Comparison, certificate: &[u8]) -> io::R
 fn print_too_long(rt: &impl Print) -> io::Result<()> {
     let mut line = [0u8; LINE];
     let n = text::put_too_long(&mut line);
-    print(rt, line, n)
+    rt.write_all(&line[..n])
 }
 
 // Compares in a lent table and buffer of these sizes.

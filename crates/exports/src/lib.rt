@@ -2,14 +2,15 @@
 // library: each of its exports calls the function of that name here.
 #![tactic(auto)]
 
-ghost use Rattle.std.specs.Prelude.{◌≡◌};
+ghost use Rattle.std.specs.Prelude.{◌≡◌, Ok, Err};
 ghost use Rattle.outcome.specs.Verdicts.{contest_of, equality, one_way, values_of, checked_values_of};
 ghost use Rattle.outcome.specs.Compare.{compare};
 ghost use Rattle.outcome.specs.Check.{check};
 ghost use Rattle.exports.specs.ReturnedNumbers.{numbers_in, Returns};
 
 use fra::Game;
-use outcome::{Check, Comparison};
+use outcome::{Acceptance, Comparison};
+use task::Refusal;
 
 // What a call returns: a refusal's number and zeros, or 0 and the verdict's numbers. A verdict's number is the kind of its
 // certificate's records.
@@ -23,45 +24,46 @@ pub struct Answer {
     pub length: usize,
 }
 
-// The numbers of a comparison's answer.
-fn answer_of(c: Comparison) -> Answer
-    ensures { numbers_in result ≡ values_of c }
-{
-    match c {
-        Comparison::Decided {
-            verdict,
-            positions,
-            rounds,
-            length,
-        } => Answer {
-            refusal: 0,
-            verdict: verdict.kind() as u32,
-            positions,
-            rounds,
-            length,
-        },
-        Comparison::Refused(n) => Answer {
-            refusal: n as u32,
+// A refusal: "its number and zeros".
+impl From<Refusal> for Answer {
+    ghost from_gives = { λ refusal answer. numbers_in answer ≡ values_of (Err refusal) };
+
+    fn from(refusal: Refusal) -> Answer {
+        Answer {
+            refusal: u32::from(u8::from(refusal)),
             verdict: 0,
             positions: 0,
             rounds: 0,
             length: 0,
-        },
+        }
     }
 }
 
-// A check's answer as that of a comparison with the same numbers.
-fn as_comparison(c: Check) -> Comparison
-    ensures { values_of result ≡ checked_values_of c }
-{
-    match c {
-        Check::Accepted { verdict, rounds } => Comparison::Decided {
-            verdict,
+impl From<Comparison> for Answer {
+    ghost from_gives = { λ comparison answer. numbers_in answer ≡ values_of (Ok comparison) };
+
+    fn from(comparison: Comparison) -> Answer {
+        Answer {
+            refusal: 0,
+            verdict: u32::from(comparison.verdict.kind()),
+            positions: comparison.positions,
+            rounds: comparison.rounds,
+            length: comparison.length,
+        }
+    }
+}
+
+impl From<Acceptance> for Answer {
+    ghost from_gives = { λ acceptance answer. numbers_in answer ≡ checked_values_of (Ok acceptance) };
+
+    fn from(acceptance: Acceptance) -> Answer {
+        Answer {
+            refusal: 0,
+            verdict: u32::from(acceptance.verdict.kind()),
             positions: 0,
-            rounds,
+            rounds: acceptance.rounds,
             length: 0,
-        },
-        Check::Refused(n) => Comparison::Refused(n),
+        }
     }
 }
 
@@ -69,14 +71,20 @@ fn as_comparison(c: Check) -> Comparison
 fn compared(game: Game, file: &[u8], table: &mut [u8], certificate: &mut [u8]) -> Answer
     ensures { Returns (compare (contest_of game) file.now table.old certificate.old) result table.new certificate.new }
 {
-    answer_of(comparer::compare(game, file, table, certificate))
+    match comparer::compare(game, file, table, certificate) {
+        Ok(comparison) => Answer::from(comparison),
+        Err(refusal) => Answer::from(refusal),
+    }
 }
 
 // The answer of a check by a game.
 fn checked(game: Game, file: &[u8], certificate: &[u8]) -> Answer
     ensures { numbers_in result ≡ checked_values_of (check (contest_of game) file.now certificate.now) }
 {
-    answer_of(as_comparison(checker::check(game, file, certificate)))
+    match checker::check(game, file, certificate) {
+        Ok(acceptance) => Answer::from(acceptance),
+        Err(refusal) => Answer::from(refusal),
+    }
 }
 
 // Compares the models of a task file.

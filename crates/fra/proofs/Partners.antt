@@ -1,10 +1,10 @@
 -- Partners from one place of a matching on. Assumes nothing.
 use Prim.Native.Nat.{ℕ, zero, suc, ◌+◌, ◌-◌, ◌≤◌, ◌<◌}
-use mathlib.Core.Path.{◌≡◌, refl}
+use mathlib.Core.Path.{◌≡◌}
 use mathlib.Core.List.{List}
 use native.Mathlib.Numerals.{add-one}
 use native.Mathlib.Omega.{arith}
-use lib.ListN.{length, get_or, drop, drop_of_length-le, get_or-eq_default}
+use lib.ListN.{length, get_or, drop, drop_of_length-le}
 use lib.Seq.{drop-cons}
 use borrow.Author.Tests.{eq-eqb, ne_eqb}
 use Rattle.fra.specs.Position.{right_partner, left_partner}
@@ -13,12 +13,6 @@ pub right_partner-at : (l : List ℕ) (i : ℕ) → 0 < i → right_partner l i 
 unfolding right_partner
 right_partner-at l zero p = absurd (omega arith)
 right_partner-at l (suc k) p = let e : suc k - 1 ≡ k = omega arith in rw e
-
--- left registers past the last have no partner
-pub right_partner_past : (l : List ℕ) (i : ℕ) → length l < i → right_partner l i ≡ 0
-unfolding right_partner
-right_partner_past l zero p = refl
-right_partner_past l (suc k) p = get_or-eq_default l 0 (omega arith)
 
 -- the left partner of right register j, from place i on
 module _ (l : List ℕ) (i j : ℕ) where

@@ -5,6 +5,7 @@ pub mod Model
 pub mod Rules
 pub mod Position
 pub mod Game
+pub mod AttackNumbers
 pub mod Reach
 pub mod Valid
 pub mod Exchange

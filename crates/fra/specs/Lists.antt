@@ -1,7 +1,6 @@
 -- The functions on lists that the definitions use beside the library's: tests that compute, and counting.
-use Rattle.std.specs.Prelude.{ℕ, zero, suc, Bool, true, false, ◌&&◌, ◌||◌, ltb, eqb}
+use Rattle.std.specs.Prelude.{ℕ, zero, suc, Bool, true, false, ◌&&◌, ◌||◌, ltb, eqb, Option, None, Some}
 use mathlib.Core.List.{List, [], ◌∷◌, Memᴰ}
-use mathlib.Core.Option.{Option, none, some}
 
 module _ {A : Type 0} where
   infix 45 ◌∈◌
@@ -31,8 +30,8 @@ module _ {A : Type 0} where
 
   -- the first element at which the test passes
   unfoldable pub first : (A → Bool) → List A → Option A
-  first f [] = none
-  first f (x ∷ xs) = elim (f x) [ true ↦ some x | false ↦ first f xs ]
+  first f [] = None
+  first f (x ∷ xs) = elim (f x) [ true ↦ Some x | false ↦ first f xs ]
 
 -- n numbers from k on: k, k + 1, ..
 unfoldable pub count : ℕ → ℕ → List ℕ
@@ -41,8 +40,8 @@ count k (suc n) = k ∷ count (suc k) n
 
 -- the least number from k on, among n of them, at which the test passes
 unfoldable pub least : (ℕ → Bool) → ℕ → ℕ → Option ℕ
-least f k zero = none
-least f k (suc n) = elim (f k) [ true ↦ some k | false ↦ least f (suc k) n ]
+least f k zero = None
+least f k (suc n) = elim (f k) [ true ↦ Some k | false ↦ least f (suc k) n ]
 
 -- the strict lexicographic order of two strings
 unfoldable pub below : List ℕ → List ℕ → Bool

@@ -1,8 +1,7 @@
 -- 01, "Positions and rounds": "Positions reached are the start and all that attacks and replies lead to." The predicate to
 -- believe is `Reached`; `reached` is the rising list that computes it.
-use Rattle.std.specs.Prelude.{ℕ, zero, suc, ◌*◌, ◌^◌, true, false, length, eqb}
+use Rattle.std.specs.Prelude.{ℕ, zero, suc, ◌*◌, ◌^◌, true, false, length, eqb, Option}
 use mathlib.Core.List.{List, [], ◌∷◌, map, flat_map, foldr}
-use mathlib.Core.Option.{Option}
 use Rattle.fra.specs.Lists.{◌∈◌, least}
 use Rattle.fra.specs.Position.{most_seen, before}
 use Rattle.fra.specs.Rules.{Rules}

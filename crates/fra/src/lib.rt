@@ -7,9 +7,10 @@ ghost use Rattle.fra.specs.Model.{register_of, kind_number, kind_of, is_known, i
 ghost use Rattle.fra.specs.Rules.{other, is_left, rules_of, game_number, game_of};
 ghost use Rattle.fra.specs.Position.{unmatched, state_of, right_partner, left_partner, partner, is_unshared, held_in};
 ghost use Rattle.fra.specs.Game.{size_after};
+ghost use Rattle.fra.specs.AttackNumbers.{side_number, side_of, case_number, case_of};
 
 // What an edge takes, with the register that it reads or writes.
-#[derive(Clone, Copy)]
+#[derive(Clone, Copy, Debug, PartialEq, Eq)]
 pub enum EdgeKind {
     // exactly the number in the register
     Known(u8),
@@ -20,7 +21,7 @@ pub enum EdgeKind {
 }
 
 impl EdgeKind {
-    // The kind with this number, of this register.
+    // The kind with this number, of this register: two numbers, so no From.
     pub fn of(number: u8, register: u8) -> Self
         ensures { result ≡ kind_of number register }
     {
@@ -31,6 +32,7 @@ impl EdgeKind {
         }
     }
 
+    // The number of the kind. It leaves the register out, so it is no conversion and no From.
     pub fn number(self) -> u8
         ensures { result ≡ kind_number self }
     {
@@ -46,9 +48,7 @@ impl EdgeKind {
         ensures { result ≡ register_of self }
     {
         match self {
-            EdgeKind::Known(i) => i,
-            EdgeKind::LocallyFresh(i) => i,
-            EdgeKind::GloballyFresh(i) => i,
+            EdgeKind::Known(i) | EdgeKind::LocallyFresh(i) | EdgeKind::GloballyFresh(i) => i,
         }
     }
 
@@ -56,36 +56,24 @@ impl EdgeKind {
     pub fn is_known(self, j: u8) -> bool
         ensures { result ≡ is_known j self }
     {
-        match self {
-            EdgeKind::Known(i) => i == j,
-            EdgeKind::LocallyFresh(_) => false,
-            EdgeKind::GloballyFresh(_) => false,
-        }
+        self == EdgeKind::Known(j)
     }
 
     pub fn is_locally_fresh(self) -> bool
         ensures { result ≡ is_locally_fresh self }
     {
-        match self {
-            EdgeKind::Known(_) => false,
-            EdgeKind::LocallyFresh(_) => true,
-            EdgeKind::GloballyFresh(_) => false,
-        }
+        matches!(self, EdgeKind::LocallyFresh(_))
     }
 
     pub fn is_fresh(self) -> bool
         ensures { result ≡ is_fresh self }
     {
-        match self {
-            EdgeKind::Known(_) => false,
-            EdgeKind::LocallyFresh(_) => true,
-            EdgeKind::GloballyFresh(_) => true,
-        }
+        matches!(self, EdgeKind::LocallyFresh(_) | EdgeKind::GloballyFresh(_))
     }
 }
 
 // A transition.
-#[derive(Clone, Copy)]
+#[derive(Clone, Copy, Debug, PartialEq, Eq)]
 pub struct Edge {
     pub from: u8,
     pub tag: u8,
@@ -94,11 +82,14 @@ pub struct Edge {
 }
 
 // The registers that are filled in a state (bit 0 is register 1), and its end mark.
-#[derive(Clone, Copy)]
+#[derive(Clone, Copy, Debug, PartialEq, Eq)]
 pub struct State {
     pub set: u8,
     pub mark: u8,
 }
+
+// The registers that a set of one byte has a bit for.
+const BITS: u8 = 8;
 
 // The register is in the set.
 pub fn has(set: u8, i: u8) -> bool
@@ -107,14 +98,14 @@ pub fn has(set: u8, i: u8) -> bool
     if i == 0 {
         return false;
     }
-    if 8 < i {
+    if BITS < i {
         return false;
     }
     (set >> (i - 1)) % 2 == 1
 }
 
-// A fresh-register automaton. States and edges past their counts are zeros.
-#[derive(Clone, Copy)]
+// A fresh-register automaton. States and edges past their counts are zeros: 01 has arrays by value, with their counts.
+#[derive(Clone, Copy, Debug, PartialEq, Eq)]
 pub struct Model {
     pub registers: u8,
     pub start: u8,
@@ -146,7 +137,7 @@ impl Model {
 
 // A pair of symbolic configurations: two states, for each left register the right register that holds the same number, 0 for
 // none, and the history's size.
-#[derive(Clone, Copy)]
+#[derive(Clone, Copy, Debug, PartialEq, Eq)]
 pub struct Position {
     pub left: u8,
     pub right: u8,
@@ -190,10 +181,9 @@ impl Position {
     pub fn partner(self, side: Side, i: u8) -> u8
         ensures { result ≡ partner self side i }
     {
-        let partners = self.partners;
         match side {
-            Side::Left => right_partner(&partners, i),
-            Side::Right => left_partner(&partners, i),
+            Side::Left => right_partner(&self.partners, i),
+            Side::Right => left_partner(&self.partners, i),
         }
     }
 
@@ -201,13 +191,11 @@ impl Position {
     pub fn held(self, left: u8, right: u8) -> u8
         ensures { result ≡ held_in left right self.partners }
     {
-        let partners = self.partners;
-        let mut held: u8 = 0;
-        let mut counted: u8 = 0;
-        while counted < Model::REGISTERS {
+        let mut held = 0;
+        for counted in 0..Model::REGISTERS {
             let register = counted + 1;
-            held += (has(left, register) as u8) + (unshared(partners, right, register) as u8);
-            counted = register;
+            held += u8::from(has(left, register))
+                + u8::from(unshared(&self.partners, right, register));
         }
         held
     }
@@ -221,10 +209,7 @@ pub fn right_partner(partners: &[u8], i: u8) -> u8
     if i == 0 {
         return 0;
     }
-    if Model::REGISTERS < i {
-        return 0;
-    }
-    partners[(i - 1) as usize]
+    partners.get((i - 1) as usize).copied().unwrap_or(0)
 }
 
 // The left register whose partner is right register j.
@@ -232,25 +217,24 @@ pub fn left_partner(partners: &[u8], j: u8) -> u8
     requires { length partners.now ≡ 6 }
     ensures { result ≡ left_partner 1 partners.now j }
 {
-    let mut i: u8 = 0;
-    while i < Model::REGISTERS {
+    for i in 0..Model::REGISTERS {
         if partners[i as usize] == j {
             return i + 1;
         }
-        i += 1;
     }
     0
 }
 
 // Right register j is in the set and no left register holds its number.
-fn unshared(partners: [u8; 6], right: u8, j: u8) -> bool
-    ensures { result ≡ is_unshared right partners j }
+fn unshared(partners: &[u8; 6], right: u8, j: u8) -> bool
+    ensures { result ≡ is_unshared right partners.now j }
 {
-    has(right, j) & (left_partner(&partners, j) == 0)
+    has(right, j) & (left_partner(partners, j) == 0)
 }
 
-// Two models, and the position that a comparison starts from. Its history's size may be stated in the task's file.
-#[derive(Clone, Copy)]
+// Two models, and the position that a comparison starts from. Its history's size may be stated in the task's file; it is the
+// greatest where it is not, so it is there either way and the flag beside it is no Option.
+#[derive(Clone, Copy, Debug, PartialEq, Eq)]
 pub struct Task {
     pub left: Model,
     pub right: Model,
@@ -258,10 +242,10 @@ pub struct Task {
     pub history_stated: bool,
 }
 
-#[derive(Clone, Copy)]
+#[derive(Clone, Copy, Debug, PartialEq, Eq)]
 pub enum Side {
-    Left,
-    Right,
+    Left = 1,
+    Right = 2,
 }
 
 impl Side {
@@ -277,15 +261,32 @@ impl Side {
     pub fn is_left(self) -> bool
         ensures { result ≡ is_left self }
     {
-        match self {
-            Side::Left => true,
-            Side::Right => false,
+        self == Side::Left
+    }
+
+    // The side with this number, if one has it.
+    pub fn of(number: u8) -> Option<Side>
+        ensures { result ≡ side_of number }
+    {
+        match number {
+            1 => Some(Side::Left),
+            2 => Some(Side::Right),
+            _ => None,
         }
     }
 }
 
+// A side's number in an attack (01).
+impl From<Side> for u8 {
+    ghost from_gives = { λ side number. number ≡ side_number side };
+
+    fn from(side: Side) -> u8 {
+        side as u8
+    }
+}
+
 // Which game is played: who attacks, and which end marks lose at once.
-#[derive(Clone, Copy)]
+#[derive(Clone, Copy, Debug, PartialEq, Eq)]
 pub enum Game {
     // bisimulation
     BothAttack,
@@ -313,20 +314,21 @@ impl Game {
             Game::LeftAttacks => (left == 1) & (right == 0),
         }
     }
+}
 
-    // The game as one number, and back.
-    pub fn number(self) -> u8
-        ensures { result ≡ game_number self }
-    {
-        match self {
-            Game::BothAttack => 0,
-            Game::LeftAttacks => 1,
-        }
+// The game as one number, and back.
+impl From<Game> for u8 {
+    ghost from_gives = { λ game number. number ≡ game_number game };
+
+    fn from(game: Game) -> u8 {
+        game as u8
     }
+}
 
-    pub fn of(number: u8) -> Game
-        ensures { result ≡ game_of number }
-    {
+impl From<u8> for Game {
+    ghost from_gives = { λ number game. game ≡ game_of number };
+
+    fn from(number: u8) -> Game {
         match number {
             0 => Game::BothAttack,
             _ => Game::LeftAttacks,
@@ -335,7 +337,7 @@ impl Game {
 }
 
 // Where the number of an attack stands before the round (01: the id case).
-#[derive(Clone, Copy)]
+#[derive(Clone, Copy, Debug, PartialEq, Eq)]
 pub enum IdCase {
     // case 0: in the register of a known edge
     Held,
@@ -353,9 +355,7 @@ impl IdCase {
         ensures { result ≡ size_after 6 self size }
     {
         match self {
-            IdCase::Held => size,
-            IdCase::Private(_) => size,
-            IdCase::Seen => size,
+            IdCase::Held | IdCase::Private(_) | IdCase::Seen => size,
             IdCase::New => {
                 if size < Position::MOST_SEEN {
                     size + 1
@@ -365,10 +365,37 @@ impl IdCase {
             }
         }
     }
+
+    // The case with this number, if one has it.
+    pub fn of(number: u8) -> Option<IdCase>
+        ensures { result ≡ case_of 6 number }
+    {
+        match number {
+            0 => Some(IdCase::Held),
+            1..=6 => Some(IdCase::Private(number)),
+            7 => Some(IdCase::Seen),
+            8 => Some(IdCase::New),
+            _ => None, // there is no ninth case
+        }
+    }
+}
+
+// The number of a case.
+impl From<IdCase> for u8 {
+    ghost from_gives = { λ case number. number ≡ case_number 6 case };
+
+    fn from(case: IdCase) -> u8 {
+        match case {
+            IdCase::Held => 0,
+            IdCase::Private(j) => j,
+            IdCase::Seen => Model::REGISTERS + 1,
+            IdCase::New => Model::REGISTERS + 2,
+        }
+    }
 }
 
 // A challenge: one side takes one of its edges.
-#[derive(Clone, Copy)]
+#[derive(Clone, Copy, Debug, PartialEq, Eq)]
 pub struct Attack {
     pub side: Side,
     pub edge: u8,

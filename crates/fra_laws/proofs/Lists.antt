@@ -5,7 +5,8 @@ use mathlib.Core.Logic.{◌⊎◌, inl, inr, ⊎_elim}
 use mathlib.Core.Bool.{Bool, true, false, false≢true, true≢false}
 use mathlib.Core.List.Memᴰ
 use mathlib.Core.List.{List, [], ◌∷◌, ◌++◌, map, flat_map}
-use mathlib.Core.Option.{Option, none, some, or_else}
+use Rattle.std.specs.Prelude.{Option, None, Some}
+use Rattle.std.specs.Option.{option_or}
 use native.Mathlib.Omega.{arith}
 use native.Mathlib.Decide.{ℕ_discrete}
 use lib.Dec.{eqb}
@@ -102,7 +103,7 @@ module _ {A : Type 0} where
 
   -- ── first ──
 
-  pub first_passes : (f : A → Bool) (x : A) (xs : List A) → f x ≡ true → first f (x ∷ xs) ≡ some x
+  pub first_passes : (f : A → Bool) (x : A) (xs : List A) → f x ≡ true → first f (x ∷ xs) ≡ Some x
   unfolding first
   first_passes f x xs e = rw (e, first)
 
@@ -111,14 +112,14 @@ module _ {A : Type 0} where
   first_fails f x xs e = rw (e, first)
 
   -- what is found passes, and nothing before it does
-  pub first_split : (f : A → Bool) (l : List A) (x : A) → first f l ≡ some x
+  pub first_split : (f : A → Bool) (l : List A) (x : A) → first f l ≡ Some x
       → (earlier : List A) × (later : List A) × (l ≡ earlier ++ x ∷ later) × (f x ≡ true) × (any f earlier ≡ false)
   unfolding first any
   first_split f [] x h = clash (cc)
   first_split f (y ∷ ys) x h = step (f y) refl (first_split f ys x)
     where
       step : (b : Bool) → f y ≡ b
-          → (first f ys ≡ some x
+          → (first f ys ≡ Some x
           → (earlier : List A) × (later : List A) × (ys ≡ earlier ++ x ∷ later) × (f x ≡ true) × (any f earlier ≡ false))
           → (earlier : List A) × (later : List A) × (y ∷ ys ≡ earlier ++ x ∷ later) × (f x ≡ true) × (any f earlier ≡ false)
       step true e rest =
@@ -129,14 +130,14 @@ module _ {A : Type 0} where
           let (earlier, later, place, passes, fails) = rest (sym (first_fails f y ys e) ∙ h) in
           (y ∷ earlier, later, ap (λ (l : List A). y ∷ l) place, passes, rw e fails)
 
-  pub first_found : (f : A → Bool) (l : List A) (x : A) → first f l ≡ some x → (x ∈ l) × (f x ≡ true)
+  pub first_found : (f : A → Bool) (l : List A) (x : A) → first f l ≡ Some x → (x ∈ l) × (f x ≡ true)
   first_found f l x h =
       let (earlier, later, place, passes, fails) = first_split f l x h in
       (rw place (Memᴰ.append_right earlier (Memᴰ.head refl)), passes)
 
   -- the first that passes is found
   pub first-at : (f : A → Bool) (earlier : List A) (x : A) (later : List A) → f x ≡ true → any f earlier ≡ false
-      → first f (earlier ++ x ∷ later) ≡ some x
+      → first f (earlier ++ x ∷ later) ≡ Some x
   unfolding any
   first-at f [] x later e h = first_passes f x later e
   first-at f (y ∷ ys) x later e h =
@@ -144,26 +145,26 @@ module _ {A : Type 0} where
       ∙ first-at f ys x later e (or_false_right (f y) (any f ys) h)
 
   -- where nothing is found, no element passes
-  pub first_none : (f : A → Bool) (l : List A) → first f l ≡ none → any f l ≡ false
+  pub first_none : (f : A → Bool) (l : List A) → first f l ≡ None → any f l ≡ false
   unfolding first any
   first_none f [] h = refl
   first_none f (y ∷ ys) h = step (f y) refl (first_none f ys)
     where
-      step : (b : Bool) → f y ≡ b → (first f ys ≡ none → any f ys ≡ false) → any f (y ∷ ys) ≡ false
+      step : (b : Bool) → f y ≡ b → (first f ys ≡ None → any f ys ≡ false) → any f (y ∷ ys) ≡ false
       step true e rest =
-          let d : first f (y ∷ ys) ≡ some y = rw (e, first) in
+          let d : first f (y ∷ ys) ≡ Some y = rw (e, first) in
           clash (cc)
       step false e rest =
           let d : first f (y ∷ ys) ≡ first f ys = rw (e, first) in
           rw e (rest (sym d ∙ h))
 
   -- nothing is found where no element passes
-  pub first-missing : (f : A → Bool) (l : List A) → any f l ≡ false → first f l ≡ none
+  pub first-missing : (f : A → Bool) (l : List A) → any f l ≡ false → first f l ≡ None
   first-missing f l h = step (first f l) refl
     where
-      step : (o : Option A) → first f l ≡ o → first f l ≡ none
-      step none e = e
-      step (some x) e = let (m, p) = first_found f l x e in absurd (any_none f h m p)
+      step : (o : Option A) → first f l ≡ o → first f l ≡ None
+      step None e = e
+      step (Some x) e = let (m, p) = first_found f l x e in absurd (any_none f h m p)
 
 module _ {A B : Type 0} where
   -- what undoes a function at each element undoes it on the list
@@ -200,13 +201,13 @@ module _ {A B : Type 0} where
 -- ── The first that passes ──
 
 module _ {A : Type 0} where
-  pub first-append : (f : A → Bool) (l m : List A) → first f (l ++ m) ≡ or_else (first f l) (first f m)
-  unfolding first or_else
+  pub first-append : (f : A → Bool) (l m : List A) → first f (l ++ m) ≡ option_or (first f l) (first f m)
+  unfolding first
   first-append f [] m = refl
   first-append f (x ∷ l) m = step (f x) refl (first-append f l m)
     where
-      step : (b : Bool) → f x ≡ b → first f (l ++ m) ≡ or_else (first f l) (first f m)
-          → first f (x ∷ (l ++ m)) ≡ or_else (first f (x ∷ l)) (first f m)
+      step : (b : Bool) → f x ≡ b → first f (l ++ m) ≡ option_or (first f l) (first f m)
+          → first f (x ∷ (l ++ m)) ≡ option_or (first f (x ∷ l)) (first f m)
       step true e r = rw (first_passes f x (l ++ m) e, first_passes f x l e)
       step false e r = rw (first_fails f x (l ++ m) e, first_fails f x l e) r
 
@@ -252,17 +253,17 @@ count_elim i (suc n) k m = step (λ (h : k ∈ count (suc i) n). count_elim (suc
 
 -- ── least ──
 
-pub least-found : (f : ℕ → Bool) (i n k : ℕ) → least f i n ≡ some k
+pub least-found : (f : ℕ → Bool) (i n k : ℕ) → least f i n ≡ Some k
     → (f k ≡ true) × (k < i + n) × ((j : ℕ) → i ≤ j → j < k → f j ≡ false)
 unfolding least
 least-found f i zero k h = clash (cc)
 least-found f i (suc n) k h = step (f i) refl (least-found f (suc i) n k)
   where
     step : (b : Bool) → f i ≡ b
-        → (least f (suc i) n ≡ some k → (f k ≡ true) × (k < suc i + n) × ((j : ℕ) → suc i ≤ j → j < k → f j ≡ false))
+        → (least f (suc i) n ≡ Some k → (f k ≡ true) × (k < suc i + n) × ((j : ℕ) → suc i ≤ j → j < k → f j ≡ false))
         → (f k ≡ true) × (k < i + suc n) × ((j : ℕ) → i ≤ j → j < k → f j ≡ false)
     step true e rest =
-        let d : least f i (suc n) ≡ some i = rw (e, least) in
+        let d : least f i (suc n) ≡ Some i = rw (e, least) in
         let s : k ≡ i = cc in
         (ap f s ∙ e, omega arith, λ j p q. absurd (omega arith))
     step false e rest =
@@ -274,14 +275,14 @@ least-found f i (suc n) k h = step (f i) refl (least-found f (suc i) n k)
         at j p q (yes d) r = ap f d ∙ e
         at j p q (no d) r = r j (omega arith) q
 
-pub least_none : (f : ℕ → Bool) (i n : ℕ) → least f i n ≡ none → (k : ℕ) → i ≤ k → k < i + n → f k ≡ false
+pub least_none : (f : ℕ → Bool) (i n : ℕ) → least f i n ≡ None → (k : ℕ) → i ≤ k → k < i + n → f k ≡ false
 unfolding least
 least_none f i zero h k p q = absurd (omega arith)
-least_none f i (suc n) h k p q = step (f i) refl (λ (e : least f (suc i) n ≡ none) (s : suc i ≤ k). least_none f (suc i) n e k s (omega arith))
+least_none f i (suc n) h k p q = step (f i) refl (λ (e : least f (suc i) n ≡ None) (s : suc i ≤ k). least_none f (suc i) n e k s (omega arith))
   where
-    step : (b : Bool) → f i ≡ b → (least f (suc i) n ≡ none → suc i ≤ k → f k ≡ false) → f k ≡ false
+    step : (b : Bool) → f i ≡ b → (least f (suc i) n ≡ None → suc i ≤ k → f k ≡ false) → f k ≡ false
     step true e rest =
-        let d : least f i (suc n) ≡ some i = rw (e, least) in
+        let d : least f i (suc n) ≡ Some i = rw (e, least) in
         clash (cc)
     step false e rest =
         let d : least f i (suc n) ≡ least f (suc i) n = rw (e, least) in

@@ -5,7 +5,7 @@ use mathlib.Core.Path.{◌≡◌, refl, sym, ◌∙◌, ap}
 use mathlib.Core.Logic.{inr, ⊎_elim, ◌↔◌}
 use mathlib.Core.Bool.{Bool, true, false, not}
 use mathlib.Core.List.{List}
-use mathlib.Core.Option.{Option, none, some}
+use Rattle.std.specs.Prelude.{Option, None, Some}
 use native.Mathlib.Omega.{arith}
 use native.Mathlib.Decide.{dec_le}
 use lib.ListN.{length}
@@ -40,13 +40,13 @@ module _ (g : Rules) (t : Task) where
       let y = rank-least n b a.lost in
       omega arith
 
-  pub rank-some : (n : ℕ) (p : Position) (k : ℕ) → rank g t n p ≡ some k → HasRank g t p k × (k ≤ n)
+  pub rank-some : (n : ℕ) (p : Position) (k : ℕ) → rank g t n p ≡ Some k → HasRank g t p k × (k ≤ n)
   unfolding rank
   rank-some n p k e =
       let (h, b, u) = least-found (λ j. lost_within g t j p) 0 (suc n) k e in
       (record { lost = h; not_before = λ j. u j (omega arith) }, omega arith)
 
-  pub rank_none : (n : ℕ) (p : Position) → rank g t n p ≡ none → lost_within g t n p ≡ false
+  pub rank_none : (n : ℕ) (p : Position) → rank g t n p ≡ None → lost_within g t n p ≡ false
   unfolding rank
   rank_none n p e = least_none (λ j. lost_within g t j p) 0 (suc n) e n (omega arith) (omega arith)
 
@@ -55,17 +55,17 @@ module _ (g : Rules) (t : Task) where
   lost-ranked n p h = found (rank g t n p) refl
     where
       found : (o : Option ℕ) → rank g t n p ≡ o → (k : ℕ) × HasRank g t p k × (k ≤ n)
-      found none e = absurd (not_both _ h (rank_none n p e))
-      found (some k) e = let (r, b) = rank-some n p k e in (k, r, b)
+      found None e = absurd (not_both _ h (rank_none n p e))
+      found (Some k) e = let (r, b) = rank-some n p k e in (k, r, b)
 
   -- `rank` finds the rank
-  pub rank-exactly : (n : ℕ) (p : Position) (k : ℕ) → (rank g t n p ≡ some k) ↔ (HasRank g t p k × (k ≤ n))
+  pub rank-exactly : (n : ℕ) (p : Position) (k : ℕ) → (rank g t n p ≡ Some k) ↔ (HasRank g t p k × (k ≤ n))
   rank-exactly n p k = (rank-some n p k, λ (r, b). found (rank g t n p) refl r b)
     where
-      found : (o : Option ℕ) → rank g t n p ≡ o → HasRank g t p k → k ≤ n → rank g t n p ≡ some k
-      found none e r b = absurd (not_both _ (lost_within-more g t k n p b r.lost) (rank_none n p e))
-      found (some j) e r b =
-          e ∙ ap {B = Option ℕ} some (same_rank (rank-some n p j e).0 r)
+      found : (o : Option ℕ) → rank g t n p ≡ o → HasRank g t p k → k ≤ n → rank g t n p ≡ Some k
+      found None e r b = absurd (not_both _ (lost_within-more g t k n p b r.lost) (rank_none n p e))
+      found (Some j) e r b =
+          e ∙ ap {B = Option ℕ} Some (same_rank (rank-some n p j e).0 r)
 
   -- a position has rank k + 1 exactly if it is not lost at once, some attack wins within k rounds and none wins within fewer
   pub rank-rounds : (p : Position) (k : ℕ)
@@ -141,13 +141,13 @@ module _ (g : Rules) (t : Task) where
     pub lost_within-length : (n : ℕ) (p : Position) → p ∈ l → lost_within g t n p ≡ true → lost_within g t (length l) p ≡ true
     lost_within-length n p m h = passes_unless _ (λ e. not_both _ h (never_lost_by-length p m e n))
 
-    pub rank_never : (p : Position) → p ∈ l → (rank g t (length l) p ≡ none) ↔ NeverLost g t p
+    pub rank_never : (p : Position) → p ∈ l → (rank g t (length l) p ≡ None) ↔ NeverLost g t p
     rank_never p m =
         (λ e. never_lost_by-length p m (rank_none (length l) p e), λ never. unranked never (rank g t (length l) p) refl)
       where
-        unranked : NeverLost g t p → (o : Option ℕ) → rank g t (length l) p ≡ o → rank g t (length l) p ≡ none
-        unranked never none e = e
-        unranked never (some k) e = absurd (not_both _ (rank-some (length l) p k e).0.lost (never k))
+        unranked : NeverLost g t p → (o : Option ℕ) → rank g t (length l) p ≡ o → rank g t (length l) p ≡ None
+        unranked never None e = e
+        unranked never (Some k) e = absurd (not_both _ (rank-some (length l) p k e).0.lost (never k))
 
     pub rank-at-most-length : (p : Position) → p ∈ l → (k : ℕ) → HasRank g t p k → k ≤ length l
     rank-at-most-length p m k r = rank-least (length l) r (lost_within-length k p m r.lost)

@@ -4,3 +4,4 @@ pub mod Reading
 pub mod Ranges
 pub mod Transitions
 pub mod Writing
+pub mod Props

@@ -11,6 +11,7 @@ ghost use Rattle.game_index.specs.Layout.{edge_places, codes, side_width};
 ghost use Rattle.game_index.specs.Reading.{side_byte, model_in, start_in, task_in, game_in, rules_in};
 ghost use Rattle.game_index.specs.Ranges.{first_edge, state_range, tag_range};
 ghost use Rattle.game_index.specs.Writing.{drops, Index};
+ghost use Rattle.game_index.specs.Props.{index_prop};
 ghost use Rattle.game_index.specs.Transitions.{transition_of};
 
 use fra::{Edge, EdgeKind, Game, Model, Position, Side};
@@ -19,7 +20,7 @@ use game_moves::rounds::Target;
 
 pub mod layout;
 
-// Edge numbers from `first` on, below `end`.
+// Edge numbers from `first` on, below `end`. The library's Range is not Copy, and a challenge, which is, holds one of these.
 #[derive(Clone, Copy)]
 pub struct Range {
     pub first: u8,
@@ -37,6 +38,13 @@ pub struct Transition {
     pub target: Target,
 }
 
+// The index of a task: its bytes, and that what stands beside the task in them follows from it.
+#[derive(Clone, Copy)]
+pub struct TaskIndex {
+    pub bytes: [u8; layout::SIZE],
+    ghost of_a_task: { Index bytes } by { index_prop bytes },
+}
+
 // ── What stands in an index ──
 
 // Byte i of a side.
@@ -50,18 +58,21 @@ fn byte_of(index: &[u8; layout::SIZE], side: Side, i: usize) -> u8
     }
 }
 
+#[tactic(auto, unfolding(crate::specs::Reading::model_in))]
 pub fn register_count(index: &[u8; layout::SIZE], side: Side) -> u8
     ensures { result ≡ (model_in index.now side).registers }
 {
     byte_of(index, side, layout::REGISTER_COUNT)
 }
 
+#[tactic(auto, unfolding(crate::specs::Reading::model_in))]
 pub fn state_count(index: &[u8; layout::SIZE], side: Side) -> u8
     ensures { result ≡ (model_in index.now side).state_count }
 {
     byte_of(index, side, layout::STATE_COUNT)
 }
 
+#[tactic(auto, unfolding(crate::specs::Reading::model_in))]
 pub fn edge_count(index: &[u8; layout::SIZE], side: Side) -> u8
     ensures { result ≡ (model_in index.now side).edge_count }
 {
@@ -72,15 +83,8 @@ pub fn edge_count(index: &[u8; layout::SIZE], side: Side) -> u8
 pub fn start(index: &[u8; layout::SIZE]) -> Position
     ensures { result ≡ start_in index.now }
 {
-    let at = layout::PARTNERS;
-    let partners = [
-        index[at],
-        index[at + 1],
-        index[at + 2],
-        index[at + 3],
-        index[at + 4],
-        index[at + 5],
-    ];
+    let mut partners = [0; Model::REGISTERS as usize];
+    partners.copy_from_slice(&index[layout::PARTNERS..layout::HISTORY]);
     Position {
         left: index[layout::START],
         right: index[layout::START + 1],
@@ -114,6 +118,7 @@ pub fn mark_of(index: &[u8; layout::SIZE], side: Side, q: u8) -> u8
 }
 
 // The history has a number that neither reader holds.
+#[tactic(auto, unfolding(fra::specs::Position::has_room, crate::specs::Reading::task_in))]
 pub fn has_room(index: &[u8; layout::SIZE], p: Position) -> bool
     ensures { result ≡ has_room (task_in index.now) p }
 {
@@ -151,10 +156,11 @@ pub fn edge_at(index: &[u8; layout::SIZE], side: Side, k: u8) -> Edge
 
 // ── The game ──
 
+#[tactic(auto, unfolding(crate::specs::Reading::game_in))]
 pub fn game(index: &[u8; layout::SIZE]) -> Game
     ensures { result ≡ game_in index.now }
 {
-    Game::of(index[layout::GAME])
+    Game::from(index[layout::GAME])
 }
 
 // The side attacks.
@@ -178,63 +184,58 @@ pub fn lost_at_once(index: &[u8; layout::SIZE], p: Position) -> bool
 // ── What follows from the task and is written beside it ──
 
 // Where the edge with this number leads.
-pub fn target_at(index: &[u8; layout::SIZE], side: Side, k: u8) -> Target
-    requires index { Index index.now }
-    requires k_lt_edge_places { k < edge_places }
-    ensures { result ≡ target_of (model_in index.now side) (edge_of (model_in index.now side) k) }
+pub fn target_at(index: &TaskIndex, side: Side, k: u8) -> Target
+    requires { k < edge_places }
+    ensures { result ≡ target_of (model_in index.now.bytes side) (edge_of (model_in index.now.bytes side) k) }
 {
     let at = layout::EDGES + layout::EDGE * (k as usize);
     Target {
-        register: byte_of(index, side, at + layout::REGISTER),
-        state: byte_of(index, side, at + layout::TO),
-        set: byte_of(index, side, at + layout::TO_SET),
+        register: byte_of(&index.bytes, side, at + layout::REGISTER),
+        state: byte_of(&index.bytes, side, at + layout::TO),
+        set: byte_of(&index.bytes, side, at + layout::TO_SET),
     }
 }
 
 // What the edge with this number takes, and where it leads; or what stands past the edges.
-pub fn transition_at(index: &[u8; layout::SIZE], side: Side, k: u8) -> Transition
-    requires { Index index.now }
-    ensures { result ≡ transition_of (model_in index.now side) k }
+pub fn transition_at(index: &TaskIndex, side: Side, k: u8) -> Transition
+    ensures { result ≡ transition_of (model_in index.now.bytes side) k }
 {
     if Model::EDGES <= k {
         let target = Target {
             register: 0,
             state: 0,
-            set: set_of(index, side, 0),
+            set: set_of(&index.bytes, side, 0),
         };
         return Transition {
             kind: EdgeKind::Known(0),
             target,
         };
     }
-    let kind = kind_at(index, side, k);
+    let kind = kind_at(&index.bytes, side, k);
     let target = target_at(index, side, k);
     Transition { kind, target }
 }
 
 // The edge with this number drops a register.
-pub fn drops_at(index: &[u8; layout::SIZE], side: Side, k: u8) -> bool
-    requires index { Index index.now }
-    requires k_lt_edge_places { k < edge_places }
-    ensures { result ≡ drops (model_in index.now side) (edge_of (model_in index.now side) k) }
+pub fn drops_at(index: &TaskIndex, side: Side, k: u8) -> bool
+    requires { k < edge_places }
+    ensures { result ≡ drops (model_in index.now.bytes side) (edge_of (model_in index.now.bytes side) k) }
 {
     let at = layout::EDGES + layout::EDGE * (k as usize);
-    byte_of(index, side, at + layout::DROPS) == 1
+    byte_of(&index.bytes, side, at + layout::DROPS) == 1
 }
 
 // The first edge whose code is not below this one.
-fn first_edge(index: &[u8; layout::SIZE], side: Side, code: usize) -> u8
-    requires index { Index index.now }
-    requires code_le_codes { code ≤ codes }
-    ensures { result ≡ first_edge (model_in index.now side) code }
+fn first_edge(index: &TaskIndex, side: Side, code: usize) -> u8
+    requires { code ≤ codes }
+    ensures { result ≡ first_edge (model_in index.now.bytes side) code }
 {
-    byte_of(index, side, layout::FIRSTS + code)
+    byte_of(&index.bytes, side, layout::FIRSTS + code)
 }
 
 // The edges that start in a state.
-pub fn edges_of(index: &[u8; layout::SIZE], side: Side, q: u8) -> Range
-    requires { Index index.now }
-    ensures { result ≡ state_range (model_in index.now side) q }
+pub fn edges_of(index: &TaskIndex, side: Side, q: u8) -> Range
+    ensures { result ≡ state_range (model_in index.now.bytes side) q }
 {
     if Model::STATES <= q {
         return Range::EMPTY;
@@ -247,9 +248,8 @@ pub fn edges_of(index: &[u8; layout::SIZE], side: Side, q: u8) -> Range
 }
 
 // The edges that start in a state and have a tag.
-pub fn tagged(index: &[u8; layout::SIZE], side: Side, q: u8, tag: u8) -> Range
-    requires { Index index.now }
-    ensures { result ≡ tag_range (model_in index.now side) q tag }
+pub fn tagged(index: &TaskIndex, side: Side, q: u8, tag: u8) -> Range
+    ensures { result ≡ tag_range (model_in index.now.bytes side) q tag }
 {
     if Model::STATES <= q {
         return Range::EMPTY;

@@ -13,56 +13,33 @@ ghost use Rattle.game_index.specs.Ranges.{edge_code, first_edge};
 ghost use Rattle.game_index.specs.Writing.{state_bytes, entry_of, edge_entry, count_bytes, IndexableModel, SidePut, Indexable, Indexes};
 
 use fra::{Edge, Game, Model, Position, State, Task, has};
-use game_index::layout;
-
-// Writes one value from a place on, up to another place.
-fn fill(out: &mut [u8; layout::SIZE], from: usize, to: usize, value: u8)
-    requires { (from ≤ to) × (to ≤ size) }
-    ensures { out.new ≡ sets out.old from (replicate (to - from) value) }
-{
-    let mut i = from;
-    while i < to {
-        out[i] = value;
-        i += 1;
-    }
-}
-
-// Writes four bytes in a row.
-fn put_four(out: &mut [u8; layout::SIZE], at: usize, a: u8, b: u8, c: u8, d: u8)
-    requires { at + 4 ≤ size }
-    ensures { out.new ≡ sets out.old at (a ∷ b ∷ c ∷ d ∷ []) }
-{
-    out[at] = a;
-    out[at + 1] = b;
-    out[at + 2] = c;
-    out[at + 3] = d;
-}
+use game_index::{TaskIndex, layout};
 
 // Writes the states of a model.
 fn put_states(out: &mut [u8; layout::SIZE], at: usize, m: Model)
     requires { at + state_places * state_width ≤ size }
     ensures { out.new ≡ sets out.old at (flat_map state_bytes m.states) }
 {
-    let mut q: usize = 0;
-    while q < (Model::STATES as usize) {
+    for q in 0..Model::STATES as usize {
         let s = m.states[q];
         out[at + layout::STATE * q] = s.set;
         out[at + layout::STATE * q + layout::MARK] = s.mark;
-        q += 1;
     }
 }
 
+// The register set of a state, empty past the states.
 fn set_in(states: [State; 16], q: u8) -> u8
     ensures { result ≡ (get_or states q no_state).set }
 {
-    if q < Model::STATES {
-        states[q as usize].set
-    } else {
-        0
-    }
+    states
+        .get(q as usize)
+        .copied()
+        .unwrap_or(Model::NO_STATE)
+        .set
 }
 
 // A register is in the set, or is the one added, and is not in the other set.
+#[tactic(auto, unfolding(fra::specs::Registers::with))]
 fn dropped(set: u8, added: u8, other: u8, i: u8) -> bool
     ensures { result ≡ (with set added i && not (has other i)) }
 {
@@ -73,12 +50,10 @@ fn dropped(set: u8, added: u8, other: u8, i: u8) -> bool
 fn drops(registers: u8, set: u8, added: u8, other: u8) -> bool
     ensures { result ≡ any (λ i. with set added i && not (has other i)) (count 1 registers) }
 {
-    let mut i: u8 = 0;
-    while i < registers {
+    for i in 0..registers {
         if dropped(set, added, other, i + 1) {
             return true;
         }
-        i += 1;
     }
     false
 }
@@ -89,8 +64,17 @@ fn put_edge(out: &mut [u8; layout::SIZE], at: usize, e: Edge, set: u8, drops: bo
     ensures { out.new ≡ sets out.old at (entry_of e set drops) }
 {
     let kind = e.kind;
-    put_four(out, at, e.from, e.tag, kind.number(), kind.register());
-    put_four(out, at + layout::TO, e.to, set, drops as u8, 0);
+    let bytes = [
+        e.from,
+        e.tag,
+        kind.number(),
+        kind.register(),
+        e.to,
+        set,
+        drops as u8,
+        0,
+    ];
+    out[at..at + layout::EDGE].copy_from_slice(&bytes);
 }
 
 // Writes the edges of a model.
@@ -98,15 +82,16 @@ fn put_edges(out: &mut [u8; layout::SIZE], at: usize, m: Model)
     requires { at + edge_places * edge_width ≤ size }
     ensures { out.new ≡ sets out.old at (flat_map (edge_entry m) m.edges) }
 {
-    let states = m.states;
-    let mut k: usize = 0;
-    while k < (Model::EDGES as usize) {
+    for k in 0..Model::EDGES as usize {
         let e = m.edges[k];
-        let kind = e.kind;
-        let to_set = set_in(states, e.to);
-        let drops = drops(m.registers, set_in(states, e.from), kind.register(), to_set);
-        put_edge(out, at + layout::EDGE * k, e, to_set, drops);
-        k += 1;
+        let set = set_in(m.states, e.to);
+        let drops = drops(
+            m.registers,
+            set_in(m.states, e.from),
+            e.kind.register(),
+            set,
+        );
+        put_edge(out, at + layout::EDGE * k, e, set, drops);
     }
 }
 
@@ -126,14 +111,13 @@ fn put_firsts(out: &mut [u8; layout::SIZE], at: usize, m: Model)
     ensures { out.new ≡ sets out.old at (map (first_edge m) (count 0 (suc codes))) }
 {
     let mut next: usize = 0;
-    let mut k: u8 = 0;
-    while k < m.edge_count {
+    let edges = m.edge_count;
+    for k in 0..edges {
         let end = code_of(m.edges[k as usize]) + 1;
-        fill(out, at + next, at + end, k);
+        out[at + next..at + end].fill(k);
         next = end;
-        k += 1;
     }
-    fill(out, at + next, at + layout::CODES + 1, k);
+    out[at + next..at + layout::CODES + 1].fill(edges);
 }
 
 // Writes the counts of a model.
@@ -141,7 +125,8 @@ fn put_counts(out: &mut [u8; layout::SIZE], at: usize, m: Model)
     requires { at + states_at ≤ size }
     ensures { out.new ≡ sets out.old at (count_bytes m) }
 {
-    put_four(out, at, m.registers, m.start, m.state_count, m.edge_count);
+    let counts = [m.registers, m.start, m.state_count, m.edge_count];
+    out[at..at + layout::STATES].copy_from_slice(&counts);
 }
 
 // Writes a side's bytes.
@@ -161,21 +146,22 @@ fn put_start(out: &mut [u8; layout::SIZE], p: Position)
     ensures { out.new ≡ sets out.old start_at (bytes p) }
 {
     let a = p.partners;
-    put_four(out, layout::START, p.left, p.right, a[0], a[1]);
-    put_four(out, layout::START + 4, a[2], a[3], a[4], a[5]);
-    out[layout::HISTORY] = p.history;
+    let bytes = [
+        p.left, p.right, a[0], a[1], a[2], a[3], a[4], a[5], p.history,
+    ];
+    out[layout::START..layout::STATED].copy_from_slice(&bytes);
 }
 
 // The index of a task and a game.
-pub fn of(t: Task, game: Game) -> [u8; layout::SIZE]
+pub fn of(t: Task, game: Game) -> TaskIndex
     requires { Indexable t }
-    ensures { Indexes t game result }
+    ensures { Indexes t game result.bytes }
 {
     let mut out = [0u8; layout::SIZE];
     put_side(&mut out, 0, t.left);
     put_side(&mut out, layout::SIDE, t.right);
     put_start(&mut out, t.start);
     out[layout::STATED] = t.history_stated as u8;
-    out[layout::GAME] = game.number();
-    out
+    out[layout::GAME] = u8::from(game);
+    TaskIndex { bytes: out }
 }

@@ -1,17 +1,20 @@
 -- The id cases of r registers by number, and those that an edge has, one after another. Assumes nothing.
 use Prim.Native.Nat.{ℕ, zero, suc, ◌+◌, ◌-◌, ◌≤◌, ◌<◌}
-use mathlib.Core.Path.{◌≡◌, refl, ◌∙◌, ap}
+use mathlib.Core.Path.{◌≡◌, refl, sym, ◌∙◌, ap}
 use mathlib.Core.Bool.{Bool, true, false}
 use mathlib.Core.List.{List, [], ◌∷◌, ◌++◌, map}
-use mathlib.Core.Option.{Option, none, some}
+use Rattle.std.specs.Prelude.{Option, None, Some, option_map}
 use native.Mathlib.Nat.{add-zero, zero-add, suc-add}
 use native.Mathlib.Numerals.{add-one}
+use native.Mathlib.Decide.{dec_le}
 use native.Mathlib.Omega.{arith}
 use lib.ListN.{length, get_or}
+use borrow.Author.Tests.{eq-eqb, ne_eqb, le-leb, lt-leb}
 use Rattle.fra.specs.Lists.{keep, count, least}
 use Rattle.fra.specs.Rules.{other}
 use Rattle.fra.specs.Position.{filled, has_room}
 use Rattle.fra.specs.Game.{has_case, cases}
+use Rattle.fra.specs.AttackNumbers.{case_of}
 use Rattle.fra.specs.declared.IdCase.{IdCase}
 use Rattle.fra.specs.declared.IdCase.TheVariants.{Held, Private, Seen, New}
 use Rattle.fra.specs.declared.EdgeKind.{EdgeKind}
@@ -19,9 +22,7 @@ use Rattle.fra.specs.declared.EdgeKind.TheVariants.{Known, LocallyFresh, Globall
 use Rattle.fra.specs.declared.Task.{Task}
 use Rattle.fra.specs.declared.Position.{Position}
 use Rattle.fra.specs.declared.Side.{Side}
-use Rattle.game_moves.specs.IdCases.{case_at, has_case_in, case_answer, case_from, cases_from}
-use Rattle.game_moves.specs.declared.cases.CaseFound.{CaseFound}
-use Rattle.game_moves.specs.declared.cases.CaseFound.TheVariants.{At, NoMore}
+use Rattle.game_moves.specs.IdCases.{case_at, has_case_in, case_from, cases_from}
 use Rattle.fra_laws.proofs.KeptLists.{keep_same}
 use Rattle.fra_laws.proofs.Least.{least-here, least-later, least-end, test, KeptFrom, kept_from}
 
@@ -67,6 +68,27 @@ module _ (r : ℕ) where
       second (suc zero) p = refl
       second (suc (suc k)) p = refl
 
+  -- the numbers of the cases are their places
+  pub case_of-at : (n : ℕ) → n < r + 3 → case_of r n ≡ Some (case_at r n)
+  unfolding case_of case_at cases
+  case_of-at zero p = refl
+  case_of-at (suc k) p = step (dec_le (suc k) r) (dec_le (r + 2) (suc k))
+    where
+      step : Dec (suc k ≤ r) → Dec (r + 2 ≤ suc k) → case_of r (suc k) ≡ Some (case_at r (suc k))
+      step (yes h) d = rw (ne_eqb (suc k) 0 (λ e. omega arith), le-leb (suc k) r h) (ap (λ (c : IdCase). Some c) (sym (case_private (suc k) (omega arith) h)))
+      step (no h) (no d) =
+          let e : suc k ≡ r + 1 = omega arith in
+          rw (ne_eqb (suc k) 0 (λ e. omega arith), lt-leb (suc k) r (omega arith), eq-eqb (suc k) (r + 1) e)
+          (ap (λ (c : IdCase). Some c) (sym (case-seen (suc k) e)))
+      step (no h) (yes d) =
+          rw (
+            ne_eqb (suc k) 0 (λ e. omega arith),
+            lt-leb (suc k) r (omega arith),
+            ne_eqb (suc k) (r + 1) (λ e. omega arith),
+            eq-eqb (suc k) (r + 2) (omega arith),
+          )
+          (ap (λ (c : IdCase). Some c) (sym (case_new (suc k) d)))
+
 -- ── The first from a number on ──
 
 module _ (r others : ℕ) (room : Bool) (p : Position) (s : Side) (kind : EdgeKind) (n : ℕ) (long : length p.partners ≡ r) where
@@ -74,16 +96,16 @@ module _ (r others : ℕ) (room : Bool) (p : Position) (s : Side) (kind : EdgeKi
   abbrev found : ℕ → Bool
   found k = has_case_in others room p s kind (case_at r k)
 
-  pub case-here : n < r + 3 → found n ≡ true → case_from others room p s kind n ≡ At (case_at r n) (n + 1)
-  unfolding case_from case_answer
+  pub case-here : n < r + 3 → found n ≡ true → case_from others room p s kind n ≡ Some (case_at r n, n + 1)
+  unfolding case_from
   case-here h e = rw (long, cases-length r, least-here found n (r + 3) h e, add-one)
 
   pub case-later : n < r + 3 → found n ≡ false → case_from others room p s kind n ≡ case_from others room p s kind (n + 1)
   unfolding case_from
   case-later h e = rw (long, cases-length r, least-later found n (r + 3) h e)
 
-  pub case_none : r + 3 ≤ n → case_from others room p s kind n ≡ NoMore
-  unfolding case_from case_answer
+  pub case_none : r + 3 ≤ n → case_from others room p s kind n ≡ None
+  unfolding case_from
   case_none h = rw (long, cases-length r, least-end found n (r + 3) h)
 
 -- ── One after another ──
@@ -97,12 +119,12 @@ module _ (others : ℕ) (room : Bool) (p : Position) (s : Side) (kind : EdgeKind
     pub first : cases_from others room p s kind n ≡ c ∷ cases_from others room p s kind k
 
   -- what an answer says of them
-  abbrev CasesFrom : ℕ → CaseFound → Type 0
-  CasesFrom n NoMore = cases_from others room p s kind n ≡ []
-  CasesFrom n (At c k) = NextCase n c k
+  abbrev CasesFrom : ℕ → Option (IdCase × ℕ) → Type 0
+  CasesFrom n None = cases_from others room p s kind n ≡ []
+  CasesFrom n (Some a) = NextCase n a.0 a.1
 
   cases-from : (n : ℕ) → CasesFrom n (case_from others room p s kind n)
-  unfolding case_from case_answer case_at
+  unfolding case_from case_at
   cases-from n =
       step
       (least (test (has_case_in others room p s kind) (cases (length p.partners)) New) n
@@ -110,9 +132,9 @@ module _ (others : ℕ) (room : Bool) (p : Position) (s : Side) (kind : EdgeKind
       (kept_from (has_case_in others room p s kind) (cases (length p.partners)) New n)
     where
       step : (o : Option ℕ) → KeptFrom (has_case_in others room p s kind) (cases (length p.partners)) New n o
-          → CasesFrom n (case_answer (length p.partners) o)
-      step none h = h
-      step (some j) h =
+          → CasesFrom n (option_map (λ k. (case_at (length p.partners) k, suc k)) o)
+      step None h = h
+      step (Some j) h =
           let e : suc j - 1 ≡ j = omega arith in
           record {
             positive = omega arith;
@@ -121,10 +143,10 @@ module _ (others : ℕ) (room : Bool) (p : Position) (s : Side) (kind : EdgeKind
             first = h.1;
           }
 
-  pub case-found : (n : ℕ) (c : IdCase) (k : ℕ) → case_from others room p s kind n ≡ At c k → NextCase n c k
+  pub case-found : (n : ℕ) (c : IdCase) (k : ℕ) → case_from others room p s kind n ≡ Some (c, k) → NextCase n c k
   case-found n c k e = rw e at (cases-from n)
 
-  pub no_case : (n : ℕ) → case_from others room p s kind n ≡ NoMore → cases_from others room p s kind n ≡ []
+  pub no_case : (n : ℕ) → case_from others room p s kind n ≡ None → cases_from others room p s kind n ≡ []
   no_case n e = rw e at (cases-from n)
 
 -- ── All of them ──

@@ -1,7 +1,6 @@
 -- The id cases of an attack by number, and those that an edge has, where the register set of the other side's state and whether
 -- the history has room for a number that neither reader holds are given in place of the task.
-use Rattle.std.specs.Prelude.{ℕ, suc, ◌-◌, Bool, not, ◌&&◌, List, length, get_or, drop, eqb}
-use mathlib.Core.Option.{Option, none, some}
+use Rattle.std.specs.Prelude.{ℕ, suc, ◌-◌, Bool, not, ◌&&◌, List, length, get_or, drop, eqb, Option, option_map}
 use Rattle.fra.specs.Lists.{keep, least}
 use Rattle.fra.specs.Registers.{has}
 use Rattle.fra.specs.Model.{is_locally_fresh, is_fresh}
@@ -13,8 +12,6 @@ use Rattle.fra.specs.declared.Position.{Position}
 use Rattle.fra.specs.declared.Side.{Side}
 use Rattle.fra.specs.declared.IdCase.{IdCase}
 use Rattle.fra.specs.declared.IdCase.TheVariants.{Held, Private, Seen, New}
-use Rattle.game_moves.specs.declared.cases.CaseFound.{CaseFound}
-use Rattle.game_moves.specs.declared.cases.CaseFound.TheVariants.{At, NoMore}
 
 -- the id case with number n of r registers: its place among the cases
 unfoldable pub case_at : ℕ → ℕ → IdCase
@@ -31,15 +28,10 @@ has_case_in others room p s kind (Private j) = is_locally_fresh kind && unpartne
 has_case_in others room p s kind Seen = is_locally_fresh kind && room
 has_case_in others room p s kind New = is_fresh kind
 
--- a case number that was found, as the answer
-unfoldable pub case_answer : ℕ → Option ℕ → CaseFound
-case_answer r none = NoMore
-case_answer r (some n) = At (case_at r n) (suc n)
-
--- the first case from number n on that the edge has
-unfoldable pub case_from : ℕ → Bool → Position → Side → EdgeKind → ℕ → CaseFound
+-- the first case from number n on that the edge has, with the number of the case to go on from
+unfoldable pub case_from : ℕ → Bool → Position → Side → EdgeKind → ℕ → Option (IdCase × ℕ)
 case_from others room p s kind n =
-    case_answer (length p.partners)
+    option_map (λ k. (case_at (length p.partners) k, suc k))
     (least (λ k. has_case_in others room p s kind (case_at (length p.partners) k)) n (length (cases (length p.partners)) - n))
 
 -- all from number n on that the edge has, in order

@@ -1,6 +1,6 @@
 // The id cases of an attack, in order.
 ghost use Rattle.std.specs.Prelude.{◌≡◌};
-ghost use Rattle.game_moves.specs.IdCases.{case_at, unpartnered, has_case_in, case_from};
+ghost use Rattle.game_moves.specs.IdCases.{unpartnered, has_case_in, case_from};
 
 use fra::{EdgeKind, IdCase, Model, Position, Side, has};
 
@@ -9,24 +9,6 @@ const COUNT: u8 = Model::REGISTERS + 3;
 
 // The number of the case of a new number, which follows that of a number seen before.
 pub const NEW: u8 = Model::REGISTERS + 2;
-
-// A case of the edge, with the number of the case to go on from; or there is none from there on.
-#[derive(Clone, Copy)]
-pub enum CaseFound {
-    At(IdCase, u8),
-    NoMore,
-}
-
-fn case_of(n: u8) -> IdCase
-    ensures { result ≡ case_at 6 n }
-{
-    match n {
-        0 => IdCase::Held,
-        1..=6 => IdCase::Private(n),
-        7 => IdCase::Seen,
-        _ => IdCase::New,
-    }
-}
 
 // Register j of a side whose state has this register set is filled and has no partner.
 fn unpartnered(p: Position, side: Side, set: u8, j: u8) -> bool
@@ -55,7 +37,7 @@ pub fn has_case(
     }
 }
 
-// The first case of the edge from this case number on.
+// The first case of the edge from this case number on, with the number of the case to go on from; none if the edge has no more.
 pub fn next_case(
     p: Position,
     side: Side,
@@ -63,16 +45,14 @@ pub fn next_case(
     others: u8,
     room: bool,
     from: u8,
-) -> CaseFound
+) -> Option<(IdCase, u8)>
     ensures { result ≡ case_from others room p side kind from }
 {
-    let mut n = from;
-    while n < COUNT {
-        let case = case_of(n);
+    for n in from..COUNT {
+        let case = IdCase::of(n)?;
         if has_case(p, side, kind, others, room, case) {
-            return CaseFound::At(case, n + 1);
+            return Some((case, n + 1));
         }
-        n += 1;
     }
-    CaseFound::NoMore
+    None
 }

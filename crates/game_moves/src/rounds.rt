@@ -8,7 +8,7 @@ ghost use Rattle.game_moves.specs.HistorySizes.{first_size, both_locally_fresh};
 use fra::{EdgeKind, IdCase, Model, Position, has};
 
 // Where an edge leads: the register that holds the number taken, the to state and its register set.
-#[derive(Clone, Copy)]
+#[derive(Clone, Copy, Debug, PartialEq, Eq)]
 pub struct Target {
     pub register: u8,
     pub state: u8,
@@ -31,20 +31,17 @@ fn remaining(left: u8, right: u8, i: u8, x: u8) -> u8
     ensures { result ≡ remaining left right i x }
 {
     let kept = has(left, i) & has(right, x);
-    (kept as u8) * x
+    u8::from(kept) * x
 }
 
 // The position after a left and a right edge have taken one number, where the history then has this size.
 pub fn moved(p: Position, size: u8, left: Target, right: Target) -> Position
     ensures { result ≡ moved_to p size left right }
 {
-    let before = p.partners;
     let mut partners = Position::EMPTY;
-    let mut i: u8 = 0;
-    while i < Model::REGISTERS {
-        let x = rejoined(left.register, right.register, i + 1, before[i as usize]);
+    for i in 0..Model::REGISTERS {
+        let x = rejoined(left.register, right.register, i + 1, p.partners[i as usize]);
         partners[i as usize] = remaining(left.set, right.set, i + 1, x);
-        i += 1;
     }
     Position {
         left: left.state,

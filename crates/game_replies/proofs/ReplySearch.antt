@@ -1,9 +1,9 @@
 -- The search for replies, from one edge on: what it finds is the first of those that are left. For any task. Assumes nothing.
 use Prim.Native.Nat.{ℕ, zero, suc, ◌+◌, ◌-◌, ◌≤◌, ◌<◌}
-use mathlib.Core.Path.{◌≡◌, refl, sym, ◌∙◌}
+use mathlib.Core.Path.{◌≡◌, refl, sym, ◌∙◌, ap}
 use mathlib.Core.Bool.{true, false}
 use mathlib.Core.List.{[], ◌∷◌}
-use mathlib.Core.Option.{Option, none, some}
+use Rattle.std.specs.Prelude.{Option, None, Some}
 use native.Mathlib.Numerals.{add-one}
 use native.Mathlib.Omega.{arith}
 use native.Mathlib.Decide.{dec_lt}
@@ -20,7 +20,6 @@ use Rattle.game_moves.specs.AfterRound.{target_of}
 use Rattle.game_moves.specs.declared.rounds.Target.{Target}
 use Rattle.game_replies.specs.ReplySearch.{replier, replies_from, reply_answer, reply_from}
 use Rattle.game_replies.specs.declared.Reply.{Reply}
-use Rattle.game_replies.specs.declared.Reply.TheVariants.{By, Missing}
 
 module _ (t : Task) (p : Position) (a : Attack) (k : ℕ) where
   abbrev count : ℕ
@@ -28,7 +27,7 @@ module _ (t : Task) (p : Position) (a : Attack) (k : ℕ) where
 
   -- ── One edge after another ──
 
-  pub reply_here : is_reply t p a k ≡ true → reply_from t p a k ≡ By k (target_of (replier t a) (edge_of (replier t a) k))
+  pub reply_here : is_reply t p a k ≡ true → reply_from t p a k ≡ Some (record { edge = k; target = target_of (replier t a) (edge_of (replier t a) k) })
   unfolding reply_from
   reply_here e = rw (least-here (is_reply t p a) k count (reply_facts t p a k e).exists e)
 
@@ -41,7 +40,7 @@ module _ (t : Task) (p : Position) (a : Attack) (k : ℕ) where
       step (no h) =
           rw (least-end (is_reply t p a) k count (omega arith), least-end (is_reply t p a) (k + 1) count (omega arith))
 
-  pub reply_none : ((j : ℕ) → k ≤ j → is_reply t p a j ≡ false) → reply_from t p a k ≡ Missing
+  pub reply_none : ((j : ℕ) → k ≤ j → is_reply t p a j ≡ false) → reply_from t p a k ≡ None
   unfolding reply_from
   reply_none h = rw (least_fails (is_reply t p a) k count h)
 
@@ -57,31 +56,31 @@ module _ (t : Task) (p : Position) (a : Attack) (k : ℕ) where
     pub target : x ≡ target_of (replier t a) (edge_of (replier t a) j)
     pub first : replies_from t p a k ≡ j ∷ replies_from t p a (j + 1)
 
-  module _ {r : Reply} (e : r ≡ reply_from t p a k) where
-    pub reply_found : {j : ℕ} {x : Target} → r ≡ By j x → NextReply j x
+  module _ {r : Option Reply} (e : r ≡ reply_from t p a k) where
+    pub reply_found : {x : Reply} → r ≡ Some x → NextReply x.edge x.target
     unfolding reply_from replies_from
-    reply_found {j} {x} d = step found refl (sym e ∙ d)
+    reply_found {x} d = step found refl (sym e ∙ d)
       where
-        step : (o : Option ℕ) → found ≡ o → reply_answer (replier t a) o ≡ By j x → NextReply j x
-        step none f g = clash (cc)
-        step (some i) f g =
-            let same : i ≡ j = cc in
-            let target : target_of (replier t a) (edge_of (replier t a) i) ≡ x = cc in
+        step : (o : Option ℕ) → found ≡ o → reply_answer (replier t a) o ≡ Some x → NextReply x.edge x.target
+        step None f g = clash (cc)
+        step (Some i) f g =
+            let same : ◌≡◌ {A = Reply} (record { edge = i; target = target_of (replier t a) (edge_of (replier t a) i) }) x = cc in
+            let edge = ap (λ (y : Reply). y.edge) same in
             let (l, q, h) = keep_some (is_reply t p a) k count i f in
             record {
               from = omega arith;
               exists = omega arith;
-              target = sym target ∙ rw same;
-              first = rw (add-one, ← same) h;
+              target = sym (ap (λ (y : Reply). y.target) same) ∙ rw edge;
+              first = rw (add-one, ← edge) h;
             }
 
-    pub reply_missing : r ≡ Missing → replies_from t p a k ≡ []
+    pub reply_missing : r ≡ None → replies_from t p a k ≡ []
     unfolding reply_from replies_from
     reply_missing d = step found refl (sym e ∙ d)
       where
-        step : (o : Option ℕ) → found ≡ o → reply_answer (replier t a) o ≡ Missing → replies_from t p a k ≡ []
-        step none f g = keep_none (is_reply t p a) k (count - k) f
-        step (some i) f g = clash (cc)
+        step : (o : Option ℕ) → found ≡ o → reply_answer (replier t a) o ≡ None → replies_from t p a k ≡ []
+        step None f g = keep_none (is_reply t p a) k (count - k) f
+        step (Some i) f g = clash (cc)
 
 module _ (t : Task) (p : Position) (a : Attack) where
   -- edges that are no replies are passed over

@@ -1,6 +1,5 @@
 -- The replies to an attack, from an edge of the other side's model on.
-use Rattle.std.specs.Prelude.{ℕ, ◌-◌, List}
-use mathlib.Core.Option.{Option, none, some}
+use Rattle.std.specs.Prelude.{ℕ, ◌-◌, List, Option, None, Some}
 use Rattle.fra.specs.Lists.{keep, count, least}
 use Rattle.fra.specs.Model.{edge_of}
 use Rattle.fra.specs.Rules.{other, model_of}
@@ -11,7 +10,6 @@ use Rattle.fra.specs.declared.Task.{Task}
 use Rattle.fra.specs.declared.Attack.{Attack}
 use Rattle.game_moves.specs.AfterRound.{target_of}
 use Rattle.game_replies.specs.declared.Reply.{Reply}
-use Rattle.game_replies.specs.declared.Reply.TheVariants.{By, Missing}
 
 -- the model of the side that replies
 abbrev pub replier : Task → Attack → Model
@@ -22,10 +20,10 @@ unfoldable pub replies_from : Task → Position → Attack → ℕ → List ℕ
 replies_from t p a k = keep (is_reply t p a) (count k ((replier t a).edge_count - k))
 
 -- an edge that was found, as the answer: "its edge number besides where it leads"
-abbrev pub reply_answer : Model → Option ℕ → Reply
-reply_answer m none = Missing
-reply_answer m (some k) = By k (target_of m (edge_of m k))
+abbrev pub reply_answer : Model → Option ℕ → Option Reply
+reply_answer m None = None
+reply_answer m (Some k) = Some (record { edge = k; target = target_of m (edge_of m k) })
 
 -- the first of them. 02, ticket 5: "of several the lowest number first, and none is reported exactly if none is left"
-unfoldable pub reply_from : Task → Position → Attack → ℕ → Reply
+unfoldable pub reply_from : Task → Position → Attack → ℕ → Option Reply
 reply_from t p a k = reply_answer (replier t a) (least (is_reply t p a) k ((replier t a).edge_count - k))

@@ -1,6 +1,5 @@
 -- The first attack that wins, under any judgement of positions.
-use Rattle.std.specs.Prelude.{Bool, true, false}
-use mathlib.Core.Option.{Option, none, some}
+use Rattle.std.specs.Prelude.{Bool, true, false, Option, None, Some}
 use Rattle.fra.specs.Lists.{all, first}
 use Rattle.fra.specs.Rules.{Rules}
 use Rattle.fra.specs.Game.{attacks, replies, after}
@@ -18,5 +17,5 @@ winner g t lost p = first (wins_by t lost p) (attacks g t p)
 
 -- there is such an attack
 abbrev pub is_found : Option Attack → Bool
-is_found none = false
-is_found (some a) = true
+is_found None = false
+is_found (Some a) = true

@@ -18,7 +18,7 @@ pub const ALL: [u8; SIZE] = [1; SIZE];
 fn place(left: u8, right: u8) -> usize
     ensures { (result ≡ pair_of left right) × (result < pair_places) }
 {
-    ((left as usize) * STATES + (right as usize)) % SIZE
+    (usize::from(left) * STATES + usize::from(right)) % SIZE
 }
 
 pub fn has(pairs: &[u8; SIZE], left: u8, right: u8) -> bool

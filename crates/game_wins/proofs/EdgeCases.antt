@@ -2,10 +2,10 @@
 -- greatest size of the history both lead to the same positions: where the one does not win, the other does not. For any task,
 -- judgement and register count. Assumes nothing.
 use Prim.Native.Nat.{ℕ, suc, ◌+◌, ◌-◌, ◌≤◌}
-use mathlib.Core.Path.{◌≡◌, refl, ◌∙◌, ap}
+use mathlib.Core.Path.{◌≡◌, refl, sym, ◌∙◌, ap}
 use mathlib.Core.Bool.{Bool, true, false, ◌&&◌}
 use mathlib.Core.List.{List, [], ◌∷◌, map}
-use mathlib.Core.Option.{Option, none, some}
+use Rattle.std.specs.Prelude.{Option, None, Some}
 use native.Mathlib.Omega.{arith}
 use lib.ListN.{length, drop, drop_of_length-le}
 use lib.Seq.{drop-cons}
@@ -23,14 +23,16 @@ use Rattle.fra.specs.declared.Position.{Position}
 use Rattle.fra.specs.declared.Task.{Task}
 use Rattle.fra.specs.declared.Side.{Side}
 use Rattle.fra.specs.declared.IdCase.{IdCase}
-use Rattle.fra.specs.declared.IdCase.TheVariants.{Seen, New}
+use Rattle.fra.specs.declared.IdCase.TheVariants.{Held, Seen, New}
 use Rattle.fra.specs.declared.Attack.{Attack}
 use Rattle.fra_laws.proofs.Tests.{and_left, and_right, not_both, fails_unless}
 use Rattle.fra_laws.proofs.Lists.{all-at, all_intro, keep_intro, keep_elim, first_passes, first_fails}
-use Rattle.game_moves.specs.IdCases.{case_at, cases_from, has_case_in}
-use Rattle.game_moves.proofs.IdCases.{NextCase, cases-length, case-seen, case_new, all-cases}
+use Rattle.game_moves.specs.IdCases.{case_at, case_from, cases_from, has_case_in}
+use Rattle.game_moves.proofs.IdCases.{NextCase, case-found, no_case, cases-length, case-seen, case_new, all-cases}
+use Rattle.game_replies.specs.Challenges.{challenge_of, attack_of, in_case}
 use Rattle.game_replies.specs.Winner.{wins_by}
-use Rattle.game_wins.specs.Wins.{win_of, edge_win}
+use Rattle.game_replies.specs.declared.Challenge.{Challenge}
+use Rattle.game_wins.specs.Wins.{edge_win}
 
 -- the last case is that of a new number
 last_case : (r : ℕ) → drop (r + 2) (cases r) ≡ New ∷ []
@@ -63,11 +65,11 @@ module _ (t : Task) (p : Position) (s : Side) (k : ℕ) where
     unfoldable pub edge_winner : ℕ → Option Attack
     edge_winner n = first (wins_by t lost p) (map (attack_in s k) (edge_cases n))
 
-    pub edge_by_case : edge_win lost t p s k ≡ win_of (edge_winner 0)
+    pub edge_by_case : edge_win lost t p s k ≡ edge_winner 0
     unfolding edge_winner
     edge_by_case = rw (all-cases t p s kind)
 
-    pub no_case-wins : (n : ℕ) → edge_cases n ≡ [] → edge_winner n ≡ none
+    pub no_case-wins : (n : ℕ) → edge_cases n ≡ [] → edge_winner n ≡ None
     unfolding edge_winner first
     no_case-wins n e = rw e
 
@@ -102,7 +104,7 @@ module _ (t : Task) (p : Position) (s : Side) (k : ℕ) where
         fresh false (GloballyFresh i) h = h
 
     module _ {n j : ℕ} {x : IdCase} (h : NextEdgeCase n x j) where
-      pub case-wins : wins_by t lost p (attack_in s k x) ≡ true → edge_winner n ≡ some (attack_in s k x)
+      pub case-wins : wins_by t lost p (attack_in s k x) ≡ true → edge_winner n ≡ Some (attack_in s k x)
       unfolding edge_winner
       case-wins e = rw h.first (first_passes (wins_by t lost p) (attack_in s k x) _ e)
 
@@ -112,7 +114,7 @@ module _ (t : Task) (p : Position) (s : Side) (k : ℕ) where
 
       -- only the case of a new number follows that of a number seen before; at the greatest history size it is not tried
       pub seen_last : (eqb j (r + 2) && leb (most_seen r) p.history) ≡ true → wins_by t lost p (attack_in s k x) ≡ false
-          → edge_winner j ≡ none
+          → edge_winner j ≡ None
       unfolding edge_winner first keep
       seen_last e f = rw (last, last_case r) (step (in_case_lem New) refl)
         where
@@ -132,6 +134,54 @@ module _ (t : Task) (p : Position) (s : Side) (k : ℕ) where
           fails = fails_unless _ (λ w. not_both _ (seen-wins most w) (rw seen at f))
 
           step : (b : Bool) → in_case_lem New ≡ b
-              → first (wins_by t lost p) (map (attack_in s k) (keep in_case_lem (New ∷ []))) ≡ none
+              → first (wins_by t lost p) (map (attack_in s k) (keep in_case_lem (New ∷ []))) ≡ None
           step true d = rw (d, keep) (first_fails (wins_by t lost p) (attack_in s k New) [] fails)
           step false d = rw (d, keep)
+
+-- ── The search for the first case that wins ──
+
+module _ (t : Task) (p : Position) (s : Side) (k : ℕ) (lost : Position → Bool) where
+  -- at case number n: what is asked with is the edge's, and the first attack that wins is the first from this case on
+  pub record Searching (others : ℕ) (room : Bool) (takes : EdgeKind) (held : Challenge) (n : ℕ) : Type 0 where
+    pub others_are : others ≡ filled t p (other s)
+    pub room_is : room ≡ has_room t p
+    pub takes_is : takes ≡ (edge_of (model_of t s) k).kind
+    pub asked : held ≡ challenge_of t p (attack_in s k Held)
+    pub winner : edge_win lost t p s k ≡ edge_winner t p s k lost n
+
+  module _ {others : ℕ} {room : Bool} {takes : EdgeKind} {held : Challenge} {n : ℕ} (h : Searching others room takes held n) where
+    -- the same edge in another case asks what the attack in that case does
+    pub asked-in : {c : Challenge} (x : IdCase) → c ≡ in_case held x → c ≡ challenge_of t p (attack_of c)
+    asked-in x e = rw (e, h.asked)
+
+    module _ {o : Option (IdCase × ℕ)} (answer : o ≡ case_from others room p s takes n) where
+      next_is : o ≡ case_from (filled t p (other s)) (has_room t p) p s (edge_of (model_of t s) k).kind n
+      next_is = answer ∙ rw (h.others_are, h.room_is, h.takes_is)
+
+      pub none_wins : o ≡ None → edge_win lost t p s k ≡ None
+      none_wins e = h.winner ∙ no_case-wins t p s k lost n (no_case _ _ _ _ _ n (sym next_is ∙ e))
+
+      module _ {x : IdCase} {j : ℕ} (found : o ≡ Some (x, j)) where
+        pub next_case : NextEdgeCase t p s k n x j
+        next_case = case-found _ _ _ _ _ n x j (sym next_is ∙ found)
+
+        module _ {c : Challenge} (e : c ≡ in_case held x) {wins : Bool} (told : wins ≡ wins_by t lost p (attack_of c)) where
+          told_of : wins ≡ wins_by t lost p (attack_in s k x)
+          told_of = told ∙ rw (e, h.asked)
+
+          pub wins-in : wins ≡ true → edge_win lost t p s k ≡ Some (attack_in s k x)
+          wins-in w = h.winner ∙ case-wins t p s k lost next_case (sym told_of ∙ w)
+
+          pub fails-in : wins ≡ false → Searching others room takes held j
+          fails-in w =
+              record {
+                others_are = h.others_are;
+                room_is = h.room_is;
+                takes_is = h.takes_is;
+                asked = h.asked;
+                winner = h.winner ∙ case_fails t p s k lost next_case (sym told_of ∙ w);
+              }
+
+          pub fails-at_last : wins ≡ false → (eqb j (length p.partners + 2) && leb (most_seen (length p.partners)) p.history) ≡ true
+              → edge_win lost t p s k ≡ None
+          fails-at_last w l = (fails-in w).winner ∙ seen_last t p s k lost next_case l (sym told_of ∙ w)

@@ -3,4 +3,3 @@ pub mod AllPairs
 pub mod EdgeCases
 pub mod SettledAttacks
 pub mod SideEdges
-pub mod WinAnswers

@@ -1,10 +1,10 @@
 -- The first attack of a side that wins, edge by edge, and that of a position, side by side. A side that attacks does so with the
 -- range of the edges that start in its state. For any judgement and register count. Assumes nothing.
 use Prim.Native.Nat.{ℕ, suc, ◌+◌, ◌-◌, ◌≤◌, ◌<◌}
-use mathlib.Core.Path.{◌≡◌, ◌∙◌, ap}
+use mathlib.Core.Path.{◌≡◌, sym, ◌∙◌, ap}
 use mathlib.Core.Bool.{Bool, true, false, cond}
 use mathlib.Core.List.{List, [], ◌++◌, flat_map}
-use mathlib.Core.Option.{none, some, or_else}
+use Rattle.std.specs.Prelude.{Option, None, Some, MatchOption}
 use native.Mathlib.Numerals.{add-one}
 use native.Mathlib.Omega.{arith}
 use Rattle.fra.specs.Lists.{first, count}
@@ -29,12 +29,10 @@ use Rattle.game_replies.specs.Winner.{wins_by, winner}
 -- ── One list of attacks after another ──
 
 module _ (f : Attack → Bool) (l m : List Attack) where
-  found_first : {a : Attack} → first f l ≡ some a → first f (l ++ m) ≡ some a
-  unfolding or_else
+  found_first : {a : Attack} → first f l ≡ Some a → first f (l ++ m) ≡ Some a
   found_first e = first-append f l m ∙ rw e
 
-  found-later : first f l ≡ none → first f (l ++ m) ≡ first f m
-  unfolding or_else
+  found-later : first f l ≡ None → first f (l ++ m) ≡ first f m
   found-later e = first-append f l m ∙ rw e
 
 -- ── A side, edge by edge ──
@@ -52,14 +50,14 @@ module _ (t : Task) (p : Position) (s : Side) where
     unfolding attacks_within flat_map count
     next_edge b = let more : n - k ≡ suc (n - (k + 1)) = omega arith in rw (more, add-one)
 
-    pub edge-wins : k < n → {a : Attack} → first wins (edge_attacks t p s k) ≡ some a → first wins (attacks_within k n) ≡ some a
+    pub edge-wins : k < n → {a : Attack} → first wins (edge_attacks t p s k) ≡ Some a → first wins (attacks_within k n) ≡ Some a
     edge-wins b e = rw (next_edge b) (found_first wins (edge_attacks t p s k) (attacks_within (k + 1) n) e)
 
-    pub edge_fails : k < n → first wins (edge_attacks t p s k) ≡ none
+    pub edge_fails : k < n → first wins (edge_attacks t p s k) ≡ None
         → first wins (attacks_within k n) ≡ first wins (attacks_within (k + 1) n)
     edge_fails b e = rw (next_edge b) (found-later wins (edge_attacks t p s k) (attacks_within (k + 1) n) e)
 
-    pub no_edge-wins : n ≤ k → first wins (attacks_within k n) ≡ none
+    pub no_edge-wins : n ≤ k → first wins (attacks_within k n) ≡ None
     unfolding attacks_within flat_map count first
     no_edge-wins b = let d : n - k ≡ 0 = omega arith in rw d
 
@@ -87,11 +85,19 @@ module _ (g : Rules) (t : Task) (lost : Position → Bool) (p : Position) where
   abbrev winning : Attack → Bool
   winning = wins_by t lost p
 
-  pub left-wins : {a : Attack} → first winning (side_attacks g t p Left) ≡ some a → winner g t lost p ≡ some a
+  left-wins : {a : Attack} → first winning (side_attacks g t p Left) ≡ Some a → winner g t lost p ≡ Some a
   unfolding winner
   left-wins e = rw (attacks_by_side g t p) (found_first winning (side_attacks g t p Left) (side_attacks g t p Right) e)
 
-  pub left_fails : first winning (side_attacks g t p Left) ≡ none
+  left_fails : first winning (side_attacks g t p Left) ≡ None
       → winner g t lost p ≡ first winning (side_attacks g t p Right)
   unfolding winner
   left_fails e = rw (attacks_by_side g t p) (found-later winning (side_attacks g t p Left) (side_attacks g t p Right) e)
+
+  -- the left side's, or else the right side's
+  pub either-side : (l r : Option Attack) {P : Type 0} → l ≡ first winning (side_attacks g t p Left)
+      → MatchOption l P (λ a. r ≡ Some a)
+      → (P → r ≡ first winning (side_attacks g t p Right))
+      → r ≡ winner g t lost p
+  either-side None r e h right = right h ∙ sym (left_fails (sym e))
+  either-side (Some a) r e h right = h ∙ sym (left-wins (sym e))

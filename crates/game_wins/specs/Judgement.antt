@@ -1,22 +1,20 @@
 -- What a listing says of positions.
-use Rattle.std.specs.Prelude.{ℕ, Bool, true, false, ◌&&◌, List, ltb}
+use Rattle.std.specs.Prelude.{ℕ, Bool, true, false, ◌&&◌, Option, Some, None, List, ltb}
 use Rattle.fra.specs.declared.Position.{Position}
 use Rattle.listing.specs.Listing.{rounds_at, positions_in}
 use Rattle.listing.specs.Lookup.{place_of}
 use Rattle.listing.specs.declared.Listing.{Listing}
-use Rattle.listing.specs.declared.Place.{Place}
-use Rattle.listing.specs.declared.Place.TheVariants.{At, Nowhere}
 use Rattle.game_state_pairs.specs.StatePairs.{has_pair}
 use Rattle.game_wins.specs.declared.Test.{Test}
 use Rattle.game_wins.specs.declared.Test.TheVariants.{Sooner, Unlisted}
 use Rattle.game_wins.specs.declared.Judge.{Judge}
 
 -- a position that is found at this place, or nowhere, is lost
-abbrev pub lost_at : List ℕ → Listing → Test → Place → Bool
-lost_at l y (Sooner k) (At i) = ltb (rounds_at y l i) k
-lost_at l y (Sooner k) Nowhere = false
-lost_at l y Unlisted (At i) = false
-lost_at l y Unlisted Nowhere = true
+abbrev pub lost_at : List ℕ → Listing → Test → Option ℕ → Bool
+lost_at l y (Sooner k) (Some i) = ltb (rounds_at y l i) k
+lost_at l y (Sooner k) None = false
+lost_at l y Unlisted (Some i) = false
+lost_at l y Unlisted None = true
 
 -- the listing judges the position lost
 unfoldable pub judged : List ℕ → Judge → Position → Bool

@@ -6,7 +6,6 @@
 ghost use Rattle.std.specs.Prelude.{◌≡◌};
 ghost use Rattle.listing.specs.Listing.{Searchable};
 ghost use Rattle.game_index.specs.Reading.{task_in};
-ghost use Rattle.game_index.specs.Writing.{Index};
 ghost use Rattle.game_state_pairs.specs.StatePairs.{has_pair};
 ghost use Rattle.game_replies.specs.Challenges.{challenge_of, attack_of, after_reply};
 ghost use Rattle.game_replies.specs.Winner.{wins_by};
@@ -14,13 +13,12 @@ ghost use Rattle.game_wins.specs.Judgement.{judged, judged_among};
 ghost use Rattle.game_wins.specs.Wins.{edge_win, side_win, first_win};
 
 use fra::{Attack, IdCase, Position, Side};
-use game_index::layout::SIZE;
+use game_index::TaskIndex;
 use game_moves::cases;
-use game_moves::cases::CaseFound;
 use game_moves::rounds::Target;
-use game_replies::{Challenge, Reply, next_reply};
+use game_replies::{Challenge, next_reply};
 use game_state_pairs::SIZE as PAIRS;
-use listing::{Listing, Place};
+use listing::Listing;
 
 // Which positions count as lost: those with fewer rounds than this, or those that are not listed.
 #[derive(Clone, Copy)]
@@ -29,18 +27,12 @@ pub enum Test {
     Unlisted,
 }
 
-// A test and the listing that it is made by.
+// A test and the listing that it is made by. The list's bytes go beside it: as a ghost field of a struct that holds them,
+// `Searchable` is refused, since antt finds no proof that `Rising`, which goes by recursion, is a proposition.
 #[derive(Clone, Copy)]
 pub struct Judge {
     pub records: Listing,
     pub test: Test,
-}
-
-// The answer of a search for an attack that wins.
-#[derive(Clone, Copy)]
-pub enum Win {
-    By(Attack),
-    Nobody,
 }
 
 // The listing judges the position lost.
@@ -49,17 +41,13 @@ fn is_lost(list: &[u8], judge: Judge, q: Position) -> bool
     ensures { result ≡ judged list.now judge q }
 {
     let records = judge.records;
-    let test = judge.test;
     let place = listing::find(list, records, q);
-    match test {
+    match judge.test {
         Test::Sooner(rounds) => match place {
-            Place::At(i) => listing::rounds_at(list, records, i) < rounds,
-            Place::Nowhere => false,
+            Some(i) => listing::rounds_at(list, records, i) < rounds,
+            None => false,
         },
-        Test::Unlisted => match place {
-            Place::At(_) => false,
-            Place::Nowhere => true,
-        },
+        Test::Unlisted => place.is_none(),
     }
 }
 
@@ -67,9 +55,8 @@ fn is_lost(list: &[u8], judge: Judge, q: Position) -> bool
 fn may_be_lost(losing: &[u8; PAIRS], challenge: Challenge, reply: Target) -> bool
     ensures { (p : Position) → result ≡ has_pair losing.now (after_reply challenge p reply).left (after_reply challenge p reply).right }
 {
-    let side = challenge.side;
     let own = challenge.target;
-    match side {
+    match challenge.side {
         Side::Left => game_state_pairs::has(losing, own.state, reply.state),
         Side::Right => game_state_pairs::has(losing, reply.state, own.state),
     }
@@ -98,25 +85,24 @@ pub fn settled(
     list: &[u8],
     judge: Judge,
     losing: &[u8; PAIRS],
-    index: &[u8; SIZE],
+    index: &TaskIndex,
     p: Position,
     challenge: Challenge,
 ) -> bool
     requires searchable { Searchable judge.records list.now }
-    requires index { Index index.now × (challenge ≡ challenge_of (task_in index.now) p (attack_of challenge)) }
-    ensures { result ≡ wins_by (task_in index.now) (judged_among losing.now list.now judge) p
+    requires asked { challenge ≡ challenge_of (task_in index.now.bytes) p (attack_of challenge) }
+    ensures { result ≡ wins_by (task_in index.now.bytes) (judged_among losing.now list.now judge) p
         (attack_of challenge) }
 {
     let mut from = 0;
     loop {
-        let reply = next_reply(index, challenge, from);
-        let Reply::By(edge, target) = reply else {
+        let Some(reply) = next_reply(index, challenge, from) else {
             return true;
         };
-        if !leads_to_lost(list, judge, losing, p, challenge, target) {
+        if !leads_to_lost(list, judge, losing, p, challenge, reply.target) {
             return false;
         }
-        from = edge + 1;
+        from = reply.edge + 1;
     }
 }
 
@@ -125,47 +111,34 @@ fn edge_win(
     list: &[u8],
     judge: Judge,
     losing: &[u8; PAIRS],
-    index: &[u8; SIZE],
+    index: &TaskIndex,
     p: Position,
     side: Side,
     k: u8,
-) -> Win
-    requires searchable { Searchable judge.records list.now }
-    requires index { Index index.now }
-    ensures { result ≡ edge_win (judged_among losing.now list.now judge) (task_in index.now) p side k }
+) -> Option<Attack>
+    requires { Searchable judge.records list.now }
+    ensures { result ≡ edge_win (judged_among losing.now list.now judge) (task_in index.now.bytes) p side k }
 {
     let away = side.other();
-    let others = game_index::set_of(index, away, p.state(away));
-    let room = game_index::has_room(index, p);
-    let e = game_index::edge_at(index, side, k);
-    let kind = e.kind;
-    let held = IdCase::Held;
-    let challenge = Challenge::of(
-        index,
-        p,
-        Attack {
-            side,
-            edge: k,
-            case: held,
-        },
-    );
+    let others = game_index::set_of(&index.bytes, away, p.state(away));
+    let room = game_index::has_room(&index.bytes, p);
+    let kind = game_index::edge_at(&index.bytes, side, k).kind;
+    let held = Attack {
+        side,
+        edge: k,
+        case: IdCase::Held,
+    };
+    let challenge = Challenge::of(index, p, held);
     let mut from = 0;
     loop {
-        let found = cases::next_case(p, side, kind, others, room, from);
-        let CaseFound::At(case, next) = found else {
-            return Win::Nobody;
-        };
+        let (case, next) = cases::next_case(p, side, kind, others, room, from)?;
         if settled(list, judge, losing, index, p, challenge.in_case(case)) {
-            return Win::By(Attack {
-                side,
-                edge: k,
-                case,
-            });
+            return Some(Attack { case, ..held });
         }
         // A number seen before has no reply that a new one has not. At the greatest size of the history both lead to the same
         // positions: where the one does not win, the other does not.
         if (next == cases::NEW) & (Position::MOST_SEEN <= p.history) {
-            return Win::Nobody;
+            return None;
         }
         from = next;
     }
@@ -176,28 +149,23 @@ fn side_win(
     list: &[u8],
     judge: Judge,
     losing: &[u8; PAIRS],
-    index: &[u8; SIZE],
+    index: &TaskIndex,
     p: Position,
     side: Side,
-) -> Win
-    requires searchable { Searchable judge.records list.now }
-    requires index { Index index.now }
-    ensures { result ≡ side_win (judged_among losing.now list.now judge) index.now p side }
+) -> Option<Attack>
+    requires { Searchable judge.records list.now }
+    ensures { result ≡ side_win (judged_among losing.now list.now judge) index.now.bytes p side }
 {
-    if !game_index::attacks(index, side) {
-        return Win::Nobody;
+    if !game_index::attacks(&index.bytes, side) {
+        return None;
     }
     let edges = game_index::edges_of(index, side, p.state(side));
-    let end = edges.end;
-    let mut k = edges.first;
-    while k < end {
-        let win = edge_win(list, judge, losing, index, p, side, k);
-        if let Win::By(a) = win {
-            return Win::By(a);
+    for k in edges.first..edges.end {
+        if let Some(a) = edge_win(list, judge, losing, index, p, side, k) {
+            return Some(a);
         }
-        k += 1;
     }
-    Win::Nobody
+    None
 }
 
 // The first attack of a position, in order of side, edge, case, whose replies all lead to positions that are judged lost.
@@ -205,16 +173,12 @@ pub fn first_win(
     list: &[u8],
     judge: Judge,
     losing: &[u8; PAIRS],
-    index: &[u8; SIZE],
+    index: &TaskIndex,
     p: Position,
-) -> Win
-    requires searchable { Searchable judge.records list.now }
-    requires index { Index index.now }
-    ensures { result ≡ first_win (judged_among losing.now list.now judge) index.now p }
+) -> Option<Attack>
+    requires { Searchable judge.records list.now }
+    ensures { result ≡ first_win (judged_among losing.now list.now judge) index.now.bytes p }
 {
-    let win = side_win(list, judge, losing, index, p, Side::Left);
-    if let Win::By(a) = win {
-        return Win::By(a);
-    }
-    side_win(list, judge, losing, index, p, Side::Right)
+    let left = side_win(list, judge, losing, index, p, Side::Left);
+    left.or_else(|| side_win(list, judge, losing, index, p, Side::Right))
 }

@@ -9,7 +9,7 @@ ghost use Rattle.key_set_laws.specs.Bits.{bits_fit};
 ghost use Rattle.key_set_laws.specs.Stored.{bucket_of, head_place, entries_of, with_entry, Stored, Walkable, Walked};
 ghost use Rattle.key_set.specs.Insertions.{Inserts};
 
-use crate::Inserted;
+use crate::Full;
 use listing::words::{put_word, word_at};
 use outcome::layout::{ENTRY, WORD};
 
@@ -26,13 +26,9 @@ fn bucket(key: u32, buckets: usize) -> usize
     requires { 0 < buckets }
     ensures { (result ≡ bucket_of buckets key) × (result < buckets) }
 {
-    let used = if buckets < MOST_BUCKETS {
-        buckets
-    } else {
-        MOST_BUCKETS
-    };
+    let used = buckets.min(MOST_BUCKETS) as u64;
     let hash = (key as u64) * HASH_FACTOR % HASH_LIMIT;
-    (hash * (used as u64) / HASH_LIMIT) as usize
+    (hash * used / HASH_LIMIT) as usize
 }
 
 // The chain from a head has the key.
@@ -73,7 +69,7 @@ fn put_entry(table: &mut [u8], entries: usize, n: usize, key: u32, b: usize)
 }
 
 // Inserts a key into the set of the first n keys, which are chained.
-pub fn insert(table: &mut [u8], n: usize, key: u32) -> Inserted
+pub fn insert(table: &mut [u8], n: usize, key: u32) -> Result<bool, Full>
     requires chained { Chained (capacity table.old) (bucket_of (capacity table.old)) n (entries_of (capacity table.old) table.old) }
     requires n_bound { (n ≤ capacity table.old) × (n ≤ key_limit) }
     ensures { (space : ℕ) → Stored space n table.old → bits_fit space (capacity table.old) ≡ false
@@ -81,16 +77,16 @@ pub fn insert(table: &mut [u8], n: usize, key: u32) -> Inserted
 {
     let entries = table.len() / ENTRY;
     if entries == 0 {
-        return Inserted::Full;
+        return Err(Full);
     }
     let b = bucket(key, entries);
     let head = word_at(table, head_place(entries, b));
     if walk(table, entries, key, head) {
-        return Inserted::Present;
+        return Ok(false);
     }
     if n < entries {
         put_entry(table, entries, n, key, b);
-        return Inserted::Added;
+        return Ok(true);
     }
-    Inserted::Full
+    Err(Full)
 }

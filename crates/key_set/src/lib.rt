@@ -1,5 +1,6 @@
 // The set of keys in the lent table: it begins with a column of words, the keys found, in order of discovery. Whether a key is among
-// them is told by a bit for each possible key where these fit behind two words for each entry, and by hash chains otherwise.
+// them is told by a bit for each possible key where these fit behind two words for each entry, and by hash chains otherwise. The two
+// ways share a contract and no code: one looks a bit up, the other walks along links.
 #![tactic(auto)]
 
 mod bits;
@@ -15,13 +16,9 @@ ghost use Rattle.key_set.specs.Insertions.{Inserts};
 
 use outcome::layout::ENTRY;
 
-#[derive(Clone, Copy)]
-pub enum Inserted {
-    Present,
-    Added,
-    // no entry is left
-    Full,
-}
+// No entry is left.
+#[derive(Clone, Copy, Debug, PartialEq, Eq)]
+pub struct Full;
 
 // An entry has five bytes beside its two words.
 const BITS_EACH: usize = 40;
@@ -31,11 +28,11 @@ const BITS_EACH: usize = 40;
 fn bits_fit(space: u32, entries: usize) -> bool
     ensures { result ≡ bits_fit space entries }
 {
-    ((space as usize) + (BITS_EACH - 1)) / BITS_EACH <= entries
+    (space as usize).div_ceil(BITS_EACH) <= entries
 }
 
-// Inserts a key into the set of the first n keys, all of which are below `space`.
-pub fn insert(table: &mut [u8], n: usize, key: u32, space: u32) -> Inserted
+// Inserts a key into the set of the first n keys, all of which are below `space`, and says whether it was added.
+pub fn insert(table: &mut [u8], n: usize, key: u32, space: u32) -> Result<bool, Full>
     requires { Stored space n table.old × (key < space) × (space ≤ key_limit) }
     ensures { Inserts space n key table.old result table.new }
 {

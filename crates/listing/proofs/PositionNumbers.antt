@@ -1,35 +1,27 @@
 -- Positions by the numbers of their nine bytes: records whose positions rise have rising numbers, and a number that is met is its
 -- position's. Assumes nothing.
-use Prim.Native.Nat.{ℕ, zero, suc, ◌+◌, ◌*◌, ◌^◌, ◌≤◌, ◌<◌}
+use Prim.Native.Nat.{ℕ, zero, suc, ◌+◌, ◌*◌, ◌≤◌, ◌<◌}
 use mathlib.Core.Path.{◌≡◌, sym, ◌∙◌, ap}
-use mathlib.Core.Bool.{true, ◌&&◌}
+use mathlib.Core.Bool.{true}
 use mathlib.Core.List.{List, [], ◌∷◌, ◌++◌}
 use native.Mathlib.Omega.{arith}
-use native.Mathlib.Nat.{add-zero, add_assoc, suc-mul, mul-le-mul_right}
-use lib.ListN.{length, get_or, set, take, drop, length-append, length-drop, get_or-append}
-use lib.Seq.{sets, length-take-le, get_or_at, get_or-take, get_or-drop, take_at, take_all, take-suc, drop-drop}
-use lib.Dec.{ltb, eqb}
+use native.Mathlib.Nat.{suc-mul, mul-le-mul_right}
+use lib.ListN.{length, get_or, take, drop, length-append, length-drop, get_or-append}
+use lib.Seq.{length-take-le, get_or-take, get_or-drop, take_at, drop-drop}
 use mir.Syntax.{w8}
 use mir.Val.{Fits}
-use borrow.Author.Tests.{ltb-true, lt-ltb, eqb-true, eq-eqb}
-use Rattle.fra.specs.Lists.{count}
 use Rattle.fra.specs.Position.{bytes, before, Rising}
 use Rattle.fra.specs.declared.Position.{Position}
-use Rattle.fra_laws.proofs.Tests.{and_left, and_right, and_intro, same_test}
 use Rattle.fra_laws.proofs.Order.{bytes_injective}
-use Rattle.fra_laws.proofs.FixedWidth.{at_member, sets_append}
-use Rattle.fra_laws.proofs.ByPlace.{elements, places-length, places-at, part}
-use Rattle.outcome.specs.Bytes.{word, word_at}
+use Rattle.fra_laws.proofs.FixedWidth.{at_member}
+use Rattle.fra_laws.proofs.ByPlace.{places-length, places-at}
 use Rattle.outcome.specs.Check.{position_of}
-use Rattle.outcome_laws.proofs.WordBytes.{word_bytes}
 use Rattle.outcome_laws.proofs.Encoding.{position-length, position-bytes}
-use Rattle.listing.specs.Widths.{word_width, position_width, history_place}
+use Rattle.listing.specs.Widths.{position_width}
 use Rattle.listing.specs.Digits.{value, Below}
-use Rattle.listing.specs.Words.{put_word}
-use Rattle.listing.specs.Listing.{position_at, positions_in, number_in, whole, number_at, Fitting, Searchable}
+use Rattle.listing.specs.Listing.{position_at, positions_in, number_at, Fitting, Searchable}
 use Rattle.listing.specs.declared.Listing.{Listing}
-use Rattle.listing.specs.declared.Number.{Number}
-use Rattle.listing.proofs.Digits.{value_snoc, value-below, value-order}
+use Rattle.listing.proofs.Digits.{value-below, value-order}
 use Rattle.listing.proofs.WordLaws.{Bytes}
 
 -- ── A position's bytes ──
@@ -70,90 +62,12 @@ pub partner-byte : (p : Position) (k : ℕ) → length p.partners ≡ 6 → k < 
 unfolding bytes
 partner-byte p k e h = get_or-append p.partners (p.history ∷ []) 0 k (omega arith)
 
-pub size-byte : (p : Position) → length p.partners ≡ 6 → get_or (bytes p) history_place 0 ≡ p.history
-unfolding bytes
-size-byte p e = get_or_at p.partners p.history [] 0 6 e
-
 -- they are read back, whatever follows
 pub position-read : (p : Position) (rest : List ℕ) → length p.partners ≡ 6 → position_of 6 (bytes p ++ rest) ≡ p
 position-read p rest six =
     let long = bytes-length p six in
     bytes_injective (position_of 6 (bytes p ++ rest)) p
     (position-bytes 6 (bytes p ++ rest) (rw length-append (omega arith)) ∙ take_at (bytes p) rest position_width long)
-
--- they are two words and the history's size
-position_words : (p : Position) → length p.partners ≡ 6 → Bytes (bytes p)
-    → word (word_at (bytes p) 0) ++ word (word_at (bytes p) word_width) ++ (get_or (bytes p) history_place 0 ∷ []) ≡ bytes p
-unfolding count
-position_words p e b =
-    rw (word_bytes (bytes p) 0 b, word_bytes (bytes p) word_width b)
-    (elements position_width (bytes p) 0 (bytes-length p e))
-
--- written one after the other they are the position's bytes
-module _ (l : List ℕ) (at : ℕ) (p : Position) (six : length p.partners ≡ 6) (b : Bytes (bytes p)) where
-  abbrev pub two_written : List ℕ
-  two_written = put_word (put_word l at (word_at (bytes p) 0)) (at + word_width) (word_at (bytes p) word_width)
-
-  pub position-written : set two_written (at + history_place) p.history ≡ sets l at (bytes p)
-  unfolding word
-  position-written =
-      let first = word (word_at (bytes p) 0) in
-      let second = word (word_at (bytes p) word_width) in
-      let size = get_or (bytes p) history_place 0 in
-      ap (set two_written (at + history_place)) (sym (size-byte p six))
-      ∙ ap (λ (m : List ℕ). set m (at + history_place) size) (sym (sets_append l at first second))
-      ∙ sym (sets_append l at (first ++ second) (size ∷ []))
-      ∙ ap (sets l at) (position_words p six b)
-
--- ── The number of a position's bytes in two parts ──
-
--- its first part, by two words
-pub two_words : (l : List ℕ) (at : ℕ) → at + position_width ≤ length l
-    → word_at l at * 2 ^ 32 + word_at l (at + word_width) ≡ value 256 0 (take history_place (drop at l))
-unfolding value count word_at
-two_words l at h =
-    let e = simp add-zero at (ap (value 256 0) (part history_place l at (omega arith))) in
-    simp add_assoc (omega (arith, e))
-
--- its parts order it: the first, and where that is the same the last
-module _ (n m : Number) where
-  pub by_last : n.first ≡ m.first → ltb n.last m.last ≡ ltb (whole n) (whole m)
-  by_last e =
-      same_test (ltb n.last m.last) (ltb (whole n) (whole m))
-      (λ h. let l = ltb-true n.last m.last h in lt-ltb (whole n) (whole m) (omega arith))
-      (λ h. let l = ltb-true (whole n) (whole m) h in lt-ltb n.last m.last (omega arith))
-
-  module _ (a : Fits w8 n.last) (b : Fits w8 m.last) where
-    pub by_first : (n.first ≡ m.first → ⊥) → ltb n.first m.first ≡ ltb (whole n) (whole m)
-    by_first d =
-        same_test (ltb n.first m.first) (ltb (whole n) (whole m))
-        (λ h. let l = ltb-true n.first m.first h in lt-ltb (whole n) (whole m) (omega (arith, a.fits, b.fits)))
-        (λ h. let l = ltb-true (whole n) (whole m) h in lt-ltb n.first m.first (omega (arith, a.fits, b.fits)))
-
-    pub by_both : (eqb n.first m.first && eqb n.last m.last) ≡ eqb (whole n) (whole m)
-    by_both =
-        let first = eqb n.first m.first in
-        let last = eqb n.last m.last in
-        same_test (first && last) (eqb (whole n) (whole m))
-        (λ h.
-        let x = eqb-true n.first m.first (and_left first last h) in
-        let y = eqb-true n.last m.last (and_right first last h) in
-        eq-eqb (whole n) (whole m) (omega arith))
-        (λ h.
-        let e = eqb-true (whole n) (whole m) h in
-        let x : n.first ≡ m.first = omega (arith, a.fits, b.fits) in
-        and_intro first last (eq-eqb n.first m.first x) (eq-eqb n.last m.last (omega arith)))
-
--- both parts as one number
-whole-number : (l : List ℕ) → position_width ≤ length l → whole (number_in l) ≡ value 256 0 (take position_width l)
-unfolding number_in
-whole-number l h = rw (take-suc l history_place 0 h) (sym (value_snoc 256 0 (take history_place l) (get_or l history_place 0)))
-
--- the number of the nine bytes of a position
-pub position-number : (p : Position) → length p.partners ≡ 6 → whole (number_in (bytes p)) ≡ value 256 0 (bytes p)
-position-number p e =
-    whole-number (bytes p) (omega (arith, bytes-length p e))
-    ∙ ap (value 256 0) (take_all position_width (bytes p) (omega (arith, bytes-length p e)))
 
 -- ── Positions by their places ──
 
@@ -206,7 +120,7 @@ module _ (y : Listing) (l : List ℕ) where
         rw (get_or-take position_width body k 0 d, get_or-drop) (b (i * y.width + y.position + k))))
 
     pub number-bytes : number_at y l i ≡ value 256 0 (bytes (position_at y l i))
-    number-bytes = whole-number body (rw length-drop (omega (arith, room))) ∙ ap (value 256 0) (sym entry-bytes)
+    number-bytes = ap (value 256 0) (sym entry-bytes)
 
     -- a record with the number of a position's bytes has that position
     pub number-found : (p : Position) → length (bytes p) ≡ position_width → Below 256 (bytes p)

@@ -5,8 +5,10 @@ use mathlib.Core.Logic.{◌⊎◌, inl, inr, ⊎_elim}
 use mathlib.Core.List.{List, [], ◌∷◌}
 use native.Mathlib.Omega.{arith}
 use native.Mathlib.Nat.{add-zero, add-suc, suc-add}
+use Rattle.std.proofs.Common.{append_assoc}
 use lib.ListN.{length, drop, get_or, set, length-set}
-use lib.Seq.{sets, get_or-drop, get_or-set_same, get_or-set_other}
+use borrow.Rule.Slice.PartMut.{put_mid}
+use lib.Seq.{sets, sets-eq, drop-drop, get_or-drop, get_or-set_same, get_or-set_other}
 use Rattle.outcome.specs.Bytes.{word, word_at}
 use Rattle.outcome_laws.proofs.WordBytes.{word_value, word_bytes}
 use Rattle.listing.specs.Words.{put_word}
@@ -31,6 +33,10 @@ module _ {A : Type 0} where
       rw add-zero (sets_other (set l i v) (suc i) vs i d (inl (omega arith)) ∙ get_or-set_same l i v d (omega arith))
   sets_inside l i (v ∷ vs) (suc j) d h k =
       rw (add-suc, ← suc-add) (sets_inside (set l i v) (suc i) vs j d (omega arith) (rw length-set (omega arith)))
+
+  -- a part that is written at once
+  pub put_mid-sets : (a k : ℕ) (l ys vs : List A) → ys ≡ vs → length vs ≡ k → a + k ≤ length l → put_mid a k l ys ≡ sets l a vs
+  put_mid-sets a k l ys vs e n h = rw (e, sets-eq vs l a (omega arith), n, drop-drop, append_assoc) refl
 
 -- ── Words ──
 

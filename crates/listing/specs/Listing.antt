@@ -1,14 +1,13 @@
 -- Records of positions in bytes.
-use Rattle.std.specs.Prelude.{ℕ, ◌+◌, ◌*◌, ◌≤◌, ◌<◌, List, map, length, get_or, take, drop}
+use Rattle.std.specs.Prelude.{ℕ, ◌+◌, ◌*◌, ◌≤◌, ◌<◌, List, map, length, take, drop}
 use Rattle.fra.specs.Lists.{count}
 use Rattle.fra.specs.Position.{Rising}
 use Rattle.fra.specs.declared.Position.{Position}
 use Rattle.outcome.specs.Bytes.{word_at}
 use Rattle.outcome.specs.Check.{position_of}
-use Rattle.listing.specs.Widths.{word_width, position_width, history_place, entry_width, entry_rounds, kept_width, lost_width, lost_rounds, record_position}
+use Rattle.listing.specs.Widths.{word_width, position_width, entry_width, entry_rounds, kept_width, lost_width, lost_rounds, record_position}
 use Rattle.listing.specs.Digits.{value}
 use Rattle.listing.specs.declared.Listing.{Listing}
-use Rattle.listing.specs.declared.Number.{Number}
 
 -- the first n entries of the table
 abbrev pub of_table : ℕ → Listing
@@ -47,17 +46,9 @@ pub record Searchable (y : Listing) (l : List ℕ) : Type 0 where
 
 -- ── The numbers of positions' bytes, which order them ──
 
--- the number of the nine bytes that stand first, in two parts: the number of all but the last one, and the last one
-unfoldable pub number_in : List ℕ → Number
-number_in l = record { first = value 256 0 (take history_place l); last = get_or l history_place 0 }
-
--- such a number as one
-abbrev pub whole : Number → ℕ
-whole n = n.first * 256 + n.last
-
 -- the number of the bytes of record i's position
 abbrev pub number_at : Listing → List ℕ → ℕ → ℕ
-number_at y l i = whole (number_in (drop (i * y.width + y.position) l))
+number_at y l i = value 256 0 (take position_width (drop (i * y.width + y.position) l))
 
 -- the records before place k have positions of smaller numbers than the sought one, and those from there on have not
 pub record Bound (y : Listing) (l : List ℕ) (sought k : ℕ) : Type 0 where

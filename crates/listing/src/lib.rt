@@ -2,17 +2,17 @@
 // looks a position up in either.
 #![tactic(auto)]
 
-ghost use Rattle.std.specs.Prelude.{◌+◌, ◌≤◌, ◌<◌, ◌≡◌, length, drop, ltb, eqb};
+ghost use Rattle.std.specs.Prelude.{◌+◌, ◌≤◌, ◌<◌, ◌≡◌, length, drop};
 ghost use lib.Seq.{sets};
 ghost use Rattle.fra.specs.Position.{bytes, before};
-ghost use Rattle.outcome.specs.Bytes.{word_at};
 ghost use Rattle.outcome.specs.Check.{position_of};
 ghost use Rattle.listing.specs.Widths.{position_width};
-ghost use Rattle.listing.specs.Listing.{of_table, of_kept, of_lost, position_at, rounds_at, positions_in, number_in, whole, Fitting, Searchable, Bound};
+ghost use Rattle.listing.specs.Digits.{value};
+ghost use Rattle.listing.specs.Listing.{of_table, of_kept, of_lost, position_at, rounds_at, positions_in, number_at, Fitting, Searchable, Bound};
 ghost use Rattle.listing.specs.Lookup.{place_of};
 
-use crate::words::{joined, put_word, word_at};
-use fra::Position;
+use crate::words::word_at;
+use fra::{Model, Position};
 use outcome::layout;
 
 pub mod words;
@@ -65,14 +65,9 @@ impl Listing {
     }
 }
 
-// Where a look-up finds a position.
-#[derive(Clone, Copy)]
-pub enum Place {
-    At(usize),
-    Nowhere,
-}
+// Where the partners, and the history's size behind them, stand in a position's bytes.
+const PARTNERS: usize = 2;
 
-// Where the history's size stands in a position's bytes.
 const HISTORY: usize = Position::WIDTH - 1;
 
 // The position whose bytes start here.
@@ -80,14 +75,8 @@ fn position_from(list: &[u8], at: usize) -> Position
     requires { at + position_width ≤ length list.now }
     ensures { result ≡ position_of 6 (drop at list.now) }
 {
-    let partners = [
-        list[at + 2],
-        list[at + 3],
-        list[at + 4],
-        list[at + 5],
-        list[at + 6],
-        list[at + 7],
-    ];
+    let mut partners = [0; Model::REGISTERS as usize];
+    partners.copy_from_slice(&list[at + PARTNERS..at + HISTORY]);
     Position {
         left: list[at],
         right: list[at + 1],
@@ -112,65 +101,14 @@ pub fn rounds_at(list: &[u8], records: Listing, i: usize) -> u32
     word_at(list, i * records.width + records.rounds)
 }
 
-// The number of a position's bytes, high byte first: it has more bits than a u64, so the last byte stands apart.
-#[derive(Clone, Copy)]
-struct Number {
-    first: u64,
-    last: u8,
-}
-
-impl Number {
-    fn of(p: Position) -> Self
-        ensures { result ≡ number_in (bytes p) }
-    {
-        Number {
-            first: (high(p) as u64) * 4294967296 + (low(p) as u64),
-            last: p.history,
-        }
-    }
-
-    fn below(self, other: Number) -> bool
-        ensures { result ≡ ltb (whole self) (whole other) }
-    {
-        if self.first == other.first {
-            self.last < other.last
-        } else {
-            self.first < other.first
-        }
-    }
-
-    fn equals(self, other: Number) -> bool
-        ensures { result ≡ eqb (whole self) (whole other) }
-    {
-        (self.first == other.first) & (self.last == other.last)
-    }
-}
-
-// The number of the position whose bytes start here.
-fn number_at(list: &[u8], at: usize) -> Number
-    requires { at + position_width ≤ length list.now }
-    ensures { result ≡ number_in (drop at list.now) }
-{
-    Number {
-        first: (word_at(list, at) as u64) * 4294967296 + (word_at(list, at + layout::WORD) as u64),
-        last: list[at + HISTORY],
-    }
-}
-
-// The first word of a position's bytes.
-fn high(p: Position) -> u32
-    ensures { result ≡ word_at (bytes p) 0 }
+// A position's bytes.
+fn bytes_of(p: Position) -> [u8; Position::WIDTH]
+    ensures { result ≡ bytes p }
 {
     let a = p.partners;
-    joined(p.left, p.right, a[0], a[1])
-}
-
-// The second word of a position's bytes.
-fn low(p: Position) -> u32
-    ensures { result ≡ word_at (bytes p) 4 }
-{
-    let a = p.partners;
-    joined(a[2], a[3], a[4], a[5])
+    [
+        p.left, p.right, a[0], a[1], a[2], a[3], a[4], a[5], p.history,
+    ]
 }
 
 // Writes a position's bytes from a place on.
@@ -178,28 +116,46 @@ pub fn put_position(list: &mut [u8], at: usize, p: Position)
     requires { at + position_width ≤ length list.old }
     ensures { list.new ≡ sets list.old at (bytes p) }
 {
-    put_word(list, at, high(p));
-    put_word(list, at + layout::WORD, low(p));
-    list[at + HISTORY] = p.history;
+    list[at..at + Position::WIDTH].copy_from_slice(&bytes_of(p));
+}
+
+// The number of a position's bytes, high byte first. It has more bits than a u64; the zeros fill up those of a u128.
+fn number(b: &[u8]) -> u128
+    requires { length b.now ≡ position_width }
+    ensures { result ≡ value 256 0 b.now }
+{
+    u128::from_be_bytes([
+        0, 0, 0, 0, 0, 0, 0, b[0], b[1], b[2], b[3], b[4], b[5], b[6], b[7], b[8],
+    ])
+}
+
+// The number of record i's position.
+fn number_at(list: &[u8], records: Listing, i: usize) -> u128
+    requires { Fitting records list.now × (i < records.count) }
+    ensures { result ≡ number_at records list.now i }
+{
+    let at = i * records.width + records.position;
+    number(&list[at..at + Position::WIDTH])
 }
 
 // The order of positions by their bytes.
 pub fn before(p: Position, q: Position) -> bool
     ensures { result ≡ before p q }
 {
-    Number::of(p).below(Number::of(q))
+    number(&bytes_of(p)) < number(&bytes_of(q))
 }
 
 // The first record whose position's number is not below the sought one.
-fn lower_bound(list: &[u8], records: Listing, sought: Number) -> usize
+fn lower_bound(list: &[u8], records: Listing, sought: u128) -> usize
     requires { Searchable records list.now }
-    ensures { Bound records list.now (whole sought) result }
+    ensures { Bound records list.now sought result }
 {
     let mut low: usize = 0;
     let mut high = records.count;
     while low < high {
         let middle = low + (high - low) / 2;
-        if number_at(list, middle * records.width + records.position).below(sought) {
+        let below = number_at(list, records, middle) < sought;
+        if below {
             low = middle + 1;
         } else {
             high = middle;
@@ -209,17 +165,12 @@ fn lower_bound(list: &[u8], records: Listing, sought: Number) -> usize
 }
 
 // Looks a position up.
-pub fn find(list: &[u8], records: Listing, p: Position) -> Place
+pub fn find(list: &[u8], records: Listing, p: Position) -> Option<usize>
     requires { Searchable records list.now }
     ensures { result ≡ place_of p (positions_in records list.now) }
 {
-    let sought = Number::of(p);
+    let sought = number(&bytes_of(p));
     let at = lower_bound(list, records, sought);
-    if records.count <= at {
-        return Place::Nowhere;
-    }
-    if number_at(list, at * records.width + records.position).equals(sought) {
-        return Place::At(at);
-    }
-    Place::Nowhere
+    let found = at < records.count && number_at(list, records, at) == sought;
+    found.then_some(at)
 }

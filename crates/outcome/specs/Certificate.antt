@@ -1,11 +1,11 @@
 -- 01, "Verdict, table, certificate": the bytes of the table and of the certificate.
-use Rattle.std.specs.Prelude.{ℕ, zero, suc, ◌+◌, Bool, true, false, length}
+use Rattle.std.specs.Prelude.{ℕ, zero, suc, ◌+◌, Bool, true, false, length, Option, None, Some}
 use mathlib.Core.List.{List, [], ◌∷◌, ◌++◌, map, flat_map}
-use mathlib.Core.Option.{Option, none, some}
 use Rattle.fra.specs.Lists.{all, keep, first}
 use Rattle.fra.specs.Position.{bytes}
 use Rattle.fra.specs.Rules.{Rules}
 use Rattle.fra.specs.Game.{attacks, replies, after, lost_within}
+use Rattle.fra.specs.AttackNumbers.{side_number, case_number}
 use Rattle.fra.specs.Reach.{closed, enough, reached, rank}
 use Rattle.fra.specs.declared.Position.{Position}
 use Rattle.fra.specs.declared.Task.{Task}
@@ -21,8 +21,8 @@ use Rattle.outcome.specs.Verdicts.{Contest, kind_of}
 -- bytes" ──
 
 abbrev pub rounds_or_never : Option ℕ → ℕ
-rounds_or_never none = all_ones
-rounds_or_never (some n) = n
+rounds_or_never None = all_ones
+rounds_or_never (Some n) = n
 
 unfoldable pub entry : Rules → Task → ℕ → Position → List ℕ
 entry g t n p = bytes p ++ word (rounds_or_never (rank g t n p))
@@ -34,8 +34,8 @@ entries g t = let l = reached g t in flat_map (entry g t (length l)) l
 -- ── The certificate of a start that is never lost: "kind 16, position"; 02, ticket 2: "certificate records 10 and 17" bytes ──
 
 abbrev pub is_never : Option ℕ → Bool
-is_never none = true
-is_never (some n) = false
+is_never None = true
+is_never (Some n) = false
 
 unfoldable pub kept_record : ℕ → Position → List ℕ
 kept_record kind p = kind ∷ bytes p
@@ -45,18 +45,6 @@ unfoldable pub kept_positions : Rules → Task → List Position
 kept_positions g t = let l = reached g t in keep (λ p. is_never (rank g t (length l) p)) l
 
 -- ── The certificate of a lost start: "kind 17, position, side, edge, case, rounds" ──
-
--- "a side (1 left, 2 right)"
-abbrev pub side_number : Side → ℕ
-side_number Left = 1
-side_number Right = 2
-
--- the numbers of the id cases: 0; 1 to r; r + 1 and r + 2, for r registers
-abbrev pub case_number : ℕ → IdCase → ℕ
-case_number r Held = 0
-case_number r (Private j) = j
-case_number r Seen = r + 1
-case_number r New = r + 2
 
 -- what a record says of a lost position
 pub record Loss : Type 0 where
@@ -82,21 +70,21 @@ chosen g t n p = first (wins g t n p) (attacks g t p)
 
 -- the attack of a position by its rounds; "Rounds 0 has side, edge and case 0"
 unfoldable pub attack_of : Rules → Task → Position → Option ℕ → Option Attack
-attack_of g t p none = none
-attack_of g t p (some zero) = none
-attack_of g t p (some (suc n)) = chosen g t n p
+attack_of g t p None = None
+attack_of g t p (Some zero) = None
+attack_of g t p (Some (suc n)) = chosen g t n p
 
 -- what a position's attack leads to
 unfoldable pub attack_leads : Task → Position → Option Attack → List Position
-attack_leads t p none = []
-attack_leads t p (some a) = map (after t p a) (replies t p a)
+attack_leads t p None = []
+attack_leads t p (Some a) = map (after t p a) (replies t p a)
 
 unfoldable pub loss_step : Rules → Task → ℕ → Position → List Position
 loss_step g t n p = attack_leads t p (attack_of g t p (rank g t n p))
 
 unfoldable pub loss_with : Position → Option ℕ → Option Attack → Loss
-loss_with p n none = record { position = p; side = 0; edge = 0; case = 0; rounds = rounds_or_never n }
-loss_with p n (some a) =
+loss_with p n None = record { position = p; side = 0; edge = 0; case = 0; rounds = rounds_or_never n }
+loss_with p n (Some a) =
     record {
       position = p;
       side = side_number a.side;
@@ -117,5 +105,5 @@ losses g t =
 -- ── The certificate of a comparison, by the start's rounds ──
 
 unfoldable pub certificate_by : Contest → Task → Option ℕ → List ℕ
-certificate_by c t none = flat_map (kept_record (kind_of c.kept)) (kept_positions c.rules t)
-certificate_by c t (some n) = flat_map (loss_record (kind_of c.lost)) (losses c.rules t)
+certificate_by c t None = flat_map (kept_record (kind_of c.kept)) (kept_positions c.rules t)
+certificate_by c t (Some n) = flat_map (loss_record (kind_of c.lost)) (losses c.rules t)

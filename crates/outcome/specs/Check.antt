@@ -1,11 +1,11 @@
 -- 01, "Verdict, table, certificate" and "Turned back": the outcome of a checker call on a task's bytes and a proposed
 -- certificate.
-use Rattle.std.specs.Prelude.{ℕ, zero, suc, ◌+◌, Bool, true, false, not, cond, ◌&&◌, List, [], ◌∷◌, map, length, get_or, take, drop, ltb, leb, eqb}
-use mathlib.Core.Option.{Option, none, some}
+use Rattle.std.specs.Prelude.{ℕ, zero, suc, ◌+◌, Bool, true, false, not, cond, ◌&&◌, List, [], ◌∷◌, map, length, get_or, take, drop, ltb, leb, eqb, Result, Ok, Err, Option, None, Some}
 use Rattle.fra.specs.Lists.{any, all, equal}
 use Rattle.fra.specs.Position.{legal, bytes, before}
 use Rattle.fra.specs.Rules.{Rules}
 use Rattle.fra.specs.Game.{is_attack, attacks, replies, after, lost_at_once}
+use Rattle.fra.specs.AttackNumbers.{side_of, case_of}
 use Rattle.fra.specs.declared.Position.{Position}
 use Rattle.fra.specs.declared.Task.{Task}
 use Rattle.fra.specs.declared.Side.{Side}
@@ -13,14 +13,13 @@ use Rattle.fra.specs.declared.Side.TheVariants.{Left, Right}
 use Rattle.fra.specs.declared.IdCase.{IdCase}
 use Rattle.fra.specs.declared.IdCase.TheVariants.{Held, Private, Seen, New}
 use Rattle.fra.specs.declared.Attack.{Attack}
-use Rattle.task.specs.TaskFile.{read_task, max_registers}
-use Rattle.task.specs.declared.Answer.{Answer}
-use Rattle.task.specs.declared.Answer.TheVariants.{Read, Refused as Unread}
+use Rattle.task.specs.TaskFile.{◌>>=◌, read_task, max_registers}
+use Rattle.task.specs.declared.Refusal.{Refusal}
+use Rattle.task.specs.declared.Refusal.TheVariants.{Malformed, NotAccepted}
 use Rattle.outcome.specs.Bytes.{word_at}
 use Rattle.outcome.specs.Verdicts.{Contest, kind_of}
 use Rattle.outcome.specs.Certificate.{Loss}
-use Rattle.outcome.specs.declared.Check.{Check}
-use Rattle.outcome.specs.declared.Check.TheVariants.{Accepted, Refused}
+use Rattle.outcome.specs.declared.Acceptance.{Acceptance}
 
 -- ── Records ──
 
@@ -53,15 +52,15 @@ loss_length r = r + 10
 
 -- the records of at most n bytes, all of one kind and none of them cut
 unfoldable pub bodies : ℕ → ℕ → ℕ → List ℕ → Option (List (List ℕ))
-bodies kind size zero l = none
-bodies kind size (suc n) [] = some []
+bodies kind size zero l = None
+bodies kind size (suc n) [] = Some []
 bodies kind size (suc n) (b ∷ l) =
     elim (eqb b kind && leb size (length l))
-    [ true ↦ follow (take size l) (bodies kind size n (drop size l)) | false ↦ none ]
+    [ true ↦ follow (take size l) (bodies kind size n (drop size l)) | false ↦ None ]
   where
     follow : List ℕ → Option (List (List ℕ)) → Option (List (List ℕ))
-    follow body none = none
-    follow body (some rest) = some (body ∷ rest)
+    follow body None = None
+    follow body (Some rest) = Some (body ∷ rest)
 
 -- each is before the next
 unfoldable pub rising : List Position → Bool
@@ -91,26 +90,18 @@ unfoldable pub kept_accepted : Rules → Task → List Position → Bool
 kept_accepted g t l = any (same t.start) l && all (holds g t l) l
 
 -- the attack that a record names, if it names one
-unfoldable pub side_of : ℕ → Option Side
-side_of n = cond (eqb n 1) (some Left) (cond (eqb n 2) (some Right) none)
-
-unfoldable pub case_of : ℕ → ℕ → Option IdCase
-case_of r n =
-    cond (eqb n 0) (some Held)
-    (cond (leb n r) (some (Private n)) (cond (eqb n (r + 1)) (some Seen) (cond (eqb n (r + 2)) (some New) none)))
-
 unfoldable pub attack_from : Option Side → ℕ → Option IdCase → Option Attack
-attack_from none k c = none
-attack_from (some s) k none = none
-attack_from (some s) k (some c) = some (record { side = s; edge = k; case = c })
+attack_from None k c = None
+attack_from (Some s) k None = None
+attack_from (Some s) k (Some c) = Some (record { side = s; edge = k; case = c })
 
 unfoldable pub attack_in : Loss → Option Attack
 attack_in x = attack_from (side_of x.side) x.edge (case_of (length x.position.partners) x.case)
 
 -- every reply leads to a listed position of fewer rounds
 unfoldable pub forces : Rules → Task → List Loss → Loss → Option Attack → Bool
-forces g t l x none = false
-forces g t l x (some a) =
+forces g t l x None = false
+forces g t l x (Some a) =
     is_attack g t x.position a
     && all (λ k. any (λ y. same (after t x.position a k) y.position && ltb y.rounds x.rounds) l)
     (replies t x.position a)
@@ -133,38 +124,38 @@ start_rounds t (x ∷ l) = elim (same t.start x.position) [ true ↦ x.rounds | 
 -- ── The outcome ──
 
 -- well formed or 13, and then accepted or 14
-unfoldable pub judge_list : Bool → Bool → Check → Check
-judge_list formed accepted check = cond formed (cond accepted check (Refused 14)) (Refused 13)
+unfoldable pub judge_list : Bool → Bool → Acceptance → Result Acceptance Refusal
+judge_list formed accepted a = cond formed (cond accepted (Ok a) (Err NotAccepted)) (Err Malformed)
 
-unfoldable pub check_kept : ℕ → Contest → Task → Option (List (List ℕ)) → Check
-check_kept r c t none = Refused 13
-check_kept r c t (some l) =
+unfoldable pub check_kept : ℕ → Contest → Task → Option (List (List ℕ)) → Result Acceptance Refusal
+check_kept r c t None = Err Malformed
+check_kept r c t (Some l) =
     let ps = map (position_of r) l in
-    judge_list (orderly r t ps) (kept_accepted c.rules t ps) (Accepted c.kept 0)
+    judge_list (orderly r t ps) (kept_accepted c.rules t ps) (record { verdict = c.kept; rounds = 0 })
 
-unfoldable pub check_losses : ℕ → Contest → Task → Option (List (List ℕ)) → Check
-check_losses r c t none = Refused 13
-check_losses r c t (some l) =
+unfoldable pub check_losses : ℕ → Contest → Task → Option (List (List ℕ)) → Result Acceptance Refusal
+check_losses r c t None = Err Malformed
+check_losses r c t (Some l) =
     let xs = map (loss_from r) l in
     judge_list (orderly r t (map (λ x. x.position) xs)) (losses_accepted c.rules t xs)
-    (Accepted c.lost (start_rounds t xs))
+    (record { verdict = c.lost; rounds = start_rounds t xs })
 
 -- by the kind of the first record; a certificate of no record is well formed and not accepted
-unfoldable pub check_task : ℕ → Contest → Task → List ℕ → Check
-check_task r c t [] = Refused 14
+unfoldable pub check_task : ℕ → Contest → Task → List ℕ → Result Acceptance Refusal
+check_task r c t [] = Err NotAccepted
 check_task r c t (b ∷ l) =
     elim (eqb b (kind_of c.kept)) [
       | true ↦ check_kept r c t (bodies b (kept_length r) (suc (length (b ∷ l))) (b ∷ l))
       | false ↦
-          elim (eqb b (kind_of c.lost))
-          [ true ↦ check_losses r c t (bodies b (loss_length r) (suc (length (b ∷ l))) (b ∷ l)) | false ↦ Refused 13 ]
+          elim (eqb b (kind_of c.lost)) [
+            | true ↦ check_losses r c t (bodies b (loss_length r) (suc (length (b ∷ l))) (b ∷ l))
+            | false ↦ Err Malformed
+          ]
     ]
 
 -- "The checker gives 1 to 10, 13, 14"; 02, ticket 2: "Every part that reads a task gives 1 to 10, 15 and any later refusal of a
 -- record"
-unfoldable pub check_read : Contest → Answer → Task → List ℕ → Check
-check_read c Read t l = check_task max_registers c t l
-check_read c (Unread n) t l = Refused n
-
-unfoldable pub check : Contest → List ℕ → List ℕ → Check
-check c file l = check_read c (read_task file).answer (read_task file).task l
+unfoldable pub check : Contest → List ℕ → List ℕ → Result Acceptance Refusal
+check c file l = do
+  t ← read_task file
+  check_task max_registers c t l

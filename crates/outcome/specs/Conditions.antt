@@ -9,7 +9,8 @@ use Rattle.fra.specs.declared.Position.{Position}
 use Rattle.fra.specs.declared.Task.{Task}
 use Rattle.fra.specs.declared.Attack.{Attack}
 use Rattle.outcome.specs.Verdicts.{Contest, kind_of}
-use Rattle.outcome.specs.Certificate.{Loss, place_of, kept_record, loss_record, side_number, case_number}
+use Rattle.fra.specs.AttackNumbers.{side_number, case_number}
+use Rattle.outcome.specs.Certificate.{Loss, place_of, kept_record, loss_record}
 use Rattle.outcome.specs.declared.Verdict.{Verdict}
 
 -- "The checker accepts kind 16 lists that are symbolic bisimulations with the start in them."

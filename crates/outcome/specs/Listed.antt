@@ -12,7 +12,8 @@ use Rattle.fra.specs.declared.Task.{Task}
 use Rattle.fra.specs.declared.Attack.{Attack}
 use Rattle.outcome.specs.Bytes.{word, all_ones}
 use Rattle.outcome.specs.Verdicts.{Contest, kind_of}
-use Rattle.outcome.specs.Certificate.{kept_record, side_number, case_number, Loss, place_of, loss_record}
+use Rattle.fra.specs.AttackNumbers.{side_number, case_number}
+use Rattle.outcome.specs.Certificate.{kept_record, Loss, place_of, loss_record}
 
 -- ── The count ──
 

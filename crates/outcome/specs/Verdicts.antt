@@ -1,16 +1,16 @@
 -- Verdicts and answers, with 01's numbers for each of their cases.
-use Rattle.std.specs.Prelude.{ℕ}
+use Rattle.std.specs.Prelude.{ℕ, List, Result, Ok, Err, codes}
 use Rattle.fra.specs.Rules.{Rules, rules_of}
 use Rattle.fra.specs.declared.Game.{Game}
 use Rattle.fra.specs.declared.Game.TheVariants.{BothAttack, LeftAttacks}
+use Rattle.task.specs.Refusals.{number_of}
+use Rattle.task.specs.declared.Refusal.{Refusal}
 use Rattle.outcome.specs.declared.Standing.{Standing}
 use Rattle.outcome.specs.declared.Standing.TheVariants.{Kept, Lost}
 use Rattle.outcome.specs.declared.Verdict.{Verdict}
 use Rattle.outcome.specs.declared.Verdict.TheVariants.{Equal, Differ, Follows, FallsShort}
 use Rattle.outcome.specs.declared.Comparison.{Comparison}
-use Rattle.outcome.specs.declared.Comparison.TheVariants.{Decided, Refused}
-use Rattle.outcome.specs.declared.Check.{Check}
-use Rattle.outcome.specs.declared.Check.TheVariants.{Accepted, Refused as Rejected}
+use Rattle.outcome.specs.declared.Acceptance.{Acceptance}
 
 -- A game with its two verdicts: the start is never lost, or it is lost.
 pub record Contest : Type 0 where
@@ -49,6 +49,13 @@ kind_of Differ = 17
 kind_of Follows = 18
 kind_of FallsShort = 19
 
+-- the word that is printed for a verdict
+abbrev pub verdict_word : Verdict → List ℕ
+verdict_word Equal = codes "EQUAL"
+verdict_word Differ = codes "DIFFER"
+verdict_word Follows = codes "FOLLOWS"
+verdict_word FallsShort = codes "FALLS SHORT"
+
 -- the bytes of such a record; 02, ticket 2: "certificate records 10 and 17"; 18 and 19 are "laid out as 16 and 17"
 abbrev pub width_of : Standing → ℕ
 width_of Kept = 10
@@ -67,11 +74,13 @@ abbrev pub number_and_zeros : ℕ → Values
 number_and_zeros n = record { refusal = n; verdict = 0; positions = 0; rounds = 0; length = 0 }
 
 -- "A verdict returns positions reached, rounds (0 for EQUAL) and certificate length." "A refusal returns its number and zeros."
-abbrev pub values_of : Comparison → Values
-values_of (Decided v p n l) = record { refusal = 0; verdict = kind_of v; positions = p; rounds = n; length = l }
-values_of (Refused n) = record { refusal = n; verdict = 0; positions = 0; rounds = 0; length = 0 }
+abbrev pub values_of : Result Comparison Refusal → Values
+values_of (Ok c) =
+    record { refusal = 0; verdict = kind_of c.verdict; positions = c.positions; rounds = c.rounds; length = c.length }
+values_of (Err e) = number_and_zeros (number_of e)
 
 -- "Acceptance returns the verdict that the kind stands for and the start's listed rounds, 0 for kind 16."
-abbrev pub checked_values_of : Check → Values
-checked_values_of (Accepted v n) = record { refusal = 0; verdict = kind_of v; positions = 0; rounds = n; length = 0 }
-checked_values_of (Rejected n) = record { refusal = n; verdict = 0; positions = 0; rounds = 0; length = 0 }
+abbrev pub checked_values_of : Result Acceptance Refusal → Values
+checked_values_of (Ok a) =
+    record { refusal = 0; verdict = kind_of a.verdict; positions = 0; rounds = a.rounds; length = 0 }
+checked_values_of (Err e) = number_and_zeros (number_of e)

@@ -27,12 +27,3 @@ pub const ROUNDS: usize = CASE + 1;
 pub const KEPT_WIDTH: usize = SIDE;
 
 pub const LOST_WIDTH: usize = ROUNDS + WORD;
-
-// The kinds of records, by the verdict.
-pub const EQUAL_KIND: u8 = 16;
-
-pub const DIFFER_KIND: u8 = 17;
-
-pub const FOLLOWS_KIND: u8 = 18;
-
-pub const FALLS_SHORT_KIND: u8 = 19;

@@ -1,15 +1,16 @@
 // What a comparison and a certificate check answer (01, "Verdict, table, certificate").
 #![tactic(auto)]
 
-ghost use Rattle.std.specs.Prelude.{◌≡◌};
-ghost use Rattle.outcome.specs.Verdicts.{verdict_of, kind_of, width_of, standing_of};
+ghost use Rattle.std.specs.Prelude.{◌≡◌, Some};
+ghost use Rattle.outcome.specs.Verdicts.{verdict_of, kind_of, width_of, standing_of, verdict_word};
 
 use fra::Game;
+use std::fmt;
 
 pub mod layout;
 
 // How a position stands: it is never lost, or it is lost.
-#[derive(Clone, Copy)]
+#[derive(Clone, Copy, Debug, PartialEq, Eq)]
 pub enum Standing {
     Kept,
     Lost,
@@ -27,12 +28,13 @@ impl Standing {
     }
 }
 
-#[derive(Clone, Copy)]
+// A verdict, with the kind byte of its certificate's records.
+#[derive(Clone, Copy, Debug, PartialEq, Eq)]
 pub enum Verdict {
-    Equal,
-    Differ,
-    Follows,
-    FallsShort,
+    Equal = 16,
+    Differ = 17,
+    Follows = 18,
+    FallsShort = 19,
 }
 
 impl Verdict {
@@ -40,15 +42,11 @@ impl Verdict {
     pub fn of(game: Game, standing: Standing) -> Verdict
         ensures { result ≡ verdict_of game standing }
     {
-        match game {
-            Game::BothAttack => match standing {
-                Standing::Kept => Verdict::Equal,
-                Standing::Lost => Verdict::Differ,
-            },
-            Game::LeftAttacks => match standing {
-                Standing::Kept => Verdict::Follows,
-                Standing::Lost => Verdict::FallsShort,
-            },
+        match (game, standing) {
+            (Game::BothAttack, Standing::Kept) => Verdict::Equal,
+            (Game::BothAttack, Standing::Lost) => Verdict::Differ,
+            (Game::LeftAttacks, Standing::Kept) => Verdict::Follows,
+            (Game::LeftAttacks, Standing::Lost) => Verdict::FallsShort,
         }
     }
 
@@ -56,12 +54,7 @@ impl Verdict {
     pub fn kind(self) -> u8
         ensures { result ≡ kind_of self }
     {
-        match self {
-            Verdict::Equal => layout::EQUAL_KIND,
-            Verdict::Differ => layout::DIFFER_KIND,
-            Verdict::Follows => layout::FOLLOWS_KIND,
-            Verdict::FallsShort => layout::FALLS_SHORT_KIND,
-        }
+        self as u8
     }
 
     // How the start stands by the verdict.
@@ -69,29 +62,44 @@ impl Verdict {
         ensures { result ≡ standing_of self }
     {
         match self {
-            Verdict::Equal => Standing::Kept,
-            Verdict::Differ => Standing::Lost,
-            Verdict::Follows => Standing::Kept,
-            Verdict::FallsShort => Standing::Lost,
+            Verdict::Equal | Verdict::Follows => Standing::Kept,
+            Verdict::Differ | Verdict::FallsShort => Standing::Lost,
+        }
+    }
+
+    // The word that programs print.
+    pub fn word(self) -> &'static str
+        ensures { result.now ≡ verdict_word self }
+    {
+        match self {
+            Verdict::Equal => "EQUAL",
+            Verdict::Differ => "DIFFER",
+            Verdict::Follows => "FOLLOWS",
+            Verdict::FallsShort => "FALLS SHORT",
         }
     }
 }
 
-// What the comparer returns; the lent table and certificate buffer hold the rest.
-#[derive(Clone, Copy)]
-pub enum Comparison {
-    Decided {
-        verdict: Verdict,
-        positions: u32,
-        rounds: u32,
-        length: usize,
-    },
-    Refused(u8),
+impl fmt::Display for Verdict {
+    ghost output = { λ verdict. Some (verdict_word verdict) };
+
+    fn fmt<W: fmt::Write>(&self, f: &mut fmt::Formatter<W>) -> fmt::Result {
+        f.write_str(self.word())
+    }
 }
 
-// What the certificate checker returns.
-#[derive(Clone, Copy)]
-pub enum Check {
-    Accepted { verdict: Verdict, rounds: u32 },
-    Refused(u8),
+// What the comparer returns of a task that it has compared; the lent table and certificate buffer hold the rest.
+#[derive(Clone, Copy, Debug, PartialEq, Eq)]
+pub struct Comparison {
+    pub verdict: Verdict,
+    pub positions: u32,
+    pub rounds: u32,
+    pub length: usize,
+}
+
+// What the certificate checker returns of a certificate that it accepts: the verdict and the start's listed rounds.
+#[derive(Clone, Copy, Debug, PartialEq, Eq)]
+pub struct Acceptance {
+    pub verdict: Verdict,
+    pub rounds: u32,
 }

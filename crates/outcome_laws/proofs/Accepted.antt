@@ -4,7 +4,7 @@ use mathlib.Core.Path.{◌≡◌, refl, sym}
 use mathlib.Core.Logic.{◌⊎◌, inl, inr, ⊎_elim, ◌↔◌}
 use mathlib.Core.Bool.{Bool, true, false, cond, false≢true}
 use mathlib.Core.List.{List}
-use mathlib.Core.Option.{Option, none, some}
+use Rattle.std.specs.Prelude.{Option, None, Some}
 use native.Mathlib.Omega.{arith}
 use lib.ListN.{length}
 use lib.Dec.{leb, eqb}
@@ -23,9 +23,10 @@ use Rattle.fra.specs.declared.Attack.{Attack}
 use Rattle.fra_laws.proofs.Tests.{clash}
 use Rattle.fra_laws.proofs.Lists.{any_witness, any_intro}
 use Rattle.fra_laws.proofs.Order.{equal_refl, equal-sound, bytes_injective}
-use Rattle.outcome.specs.Certificate.{Loss, side_number, case_number}
+use Rattle.fra.specs.AttackNumbers.{side_number, case_number, side_of, case_of}
+use Rattle.outcome.specs.Certificate.{Loss}
 use Rattle.outcome.specs.Conditions.{KeptCondition, LostCondition, LostAlready, LostByAttack}
-use Rattle.outcome.specs.Check.{same, holds, kept_accepted, side_of, case_of, attack_from, attack_in, forces, loss_holds, losses_accepted}
+use Rattle.outcome.specs.Check.{same, holds, kept_accepted, attack_from, attack_in, forces, loss_holds, losses_accepted}
 use Rattle.outcome_laws.proofs.PassedTests.{tests}
 use Rattle.fra_laws.proofs.AttackMembers.{Within, attacks_intro, attacks_elim}
 
@@ -48,21 +49,21 @@ ruleset conditions = (listed, same_passes, tests)
 
 -- ── A record's numbers name the attack that they encode ──
 
-side_decodes : (s : Side) → side_of (side_number s) ≡ some s
+side_decodes : (s : Side) → side_of (side_number s) ≡ Some s
 unfolding side_of
 side_decodes Left = refl
 side_decodes Right = refl
 
-side_decoded : (n : ℕ) (s : Side) → side_of n ≡ some s → n ≡ side_number s
+side_decoded : (n : ℕ) (s : Side) → side_of n ≡ Some s → n ≡ side_number s
 unfolding side_of
 side_decoded n s = step (eqb n 1) (eqb n 2) refl refl
   where
-    step : (a b : Bool) → eqb n 1 ≡ a → eqb n 2 ≡ b → cond a (some Left) (cond b (some Right) none) ≡ some s → n ≡ side_number s
+    step : (a b : Bool) → eqb n 1 ≡ a → eqb n 2 ≡ b → cond a (Some Left) (cond b (Some Right) None) ≡ Some s → n ≡ side_number s
     step true b e f h = let d : Left ≡ s = cc in rw (← d) (eqb-true n 1 e)
     step false true e f h = let d : Right ≡ s = cc in rw (← d) (eqb-true n 2 f)
     step false false e f h = clash (cc)
 
-case_decodes : (r : ℕ) (c : IdCase) → Within r c → case_of r (case_number r c) ≡ some c
+case_decodes : (r : ℕ) (c : IdCase) → Within r c → case_of r (case_number r c) ≡ Some c
 unfolding case_of
 case_decodes r Held w = refl
 case_decodes r (Private j) w = rw (ne_eqb j 0 (omega arith), le-leb j r (omega arith))
@@ -75,12 +76,12 @@ case_decodes r New w =
       eq-eqb (r + 2) (r + 2) refl,
     )
 
-case_decoded : (r n : ℕ) (c : IdCase) → case_of r n ≡ some c → (n ≡ case_number r c) × Within r c
+case_decoded : (r n : ℕ) (c : IdCase) → case_of r n ≡ Some c → (n ≡ case_number r c) × Within r c
 unfolding case_of
 case_decoded r n c = step (eqb n 0) (leb n r) (eqb n (r + 1)) (eqb n (r + 2)) refl refl refl refl
   where
     step : (a b d e : Bool) → eqb n 0 ≡ a → leb n r ≡ b → eqb n (r + 1) ≡ d → eqb n (r + 2) ≡ e
-        → cond a (some Held) (cond b (some (Private n)) (cond d (some Seen) (cond e (some New) none))) ≡ some c
+        → cond a (Some Held) (cond b (Some (Private n)) (cond d (Some Seen) (cond e (Some New) None))) ≡ Some c
         → (n ≡ case_number r c) × Within r c
     step true b d e h i j k f = let x : Held ≡ c = cc in rw (← x) (eqb-true n 0 h, tt)
     step false true d e h i j k f =
@@ -98,7 +99,7 @@ record Names (x : Loss) (a : Attack) : Type 0 where
   case : x.case ≡ case_number (length x.position.partners) a.case
   within : Within (length x.position.partners) a.case
 
-attack-named : (x : Loss) (a : Attack) → (attack_in x ≡ some a) ↔ Names x a
+attack-named : (x : Loss) (a : Attack) → (attack_in x ≡ Some a) ↔ Names x a
 unfolding attack_in attack_from
 attack-named x a = (
   step (side_of x.side) (case_of (length x.position.partners) x.case) refl refl,
@@ -108,11 +109,11 @@ attack-named x a = (
 )
   where
     step : (s : Option Side) (c : Option IdCase) → side_of x.side ≡ s → case_of (length x.position.partners) x.case ≡ c
-        → attack_from s x.edge c ≡ some a
+        → attack_from s x.edge c ≡ Some a
         → Names x a
-    step none c e f h = clash (cc)
-    step (some s) none e f h = clash (cc)
-    step (some s) (some c) e f h =
+    step None c e f h = clash (cc)
+    step (Some s) None e f h = clash (cc)
+    step (Some s) (Some c) e f h =
         let d : record { side = s; edge = x.edge; case = c } ≡ a = cc in
         let (g, w) = case_decoded (length x.position.partners) x.case c f in
         rw (← d) (record { side = side_decoded x.side s e; edge = refl; case = g; within = w })
@@ -140,14 +141,14 @@ module _ (g : Rules) (t : Task) where
       step (attack_in x) refl,
       λ w.
           let (h, v) = attacks_elim g t x.position w.attack w.exists in
-          let e : attack_in x ≡ some w.attack =
+          let e : attack_in x ≡ Some w.attack =
           (attack-named x w.attack).1 (record { side = w.side; edge = w.edge; case = w.case; within = v }) in
           rw e (simp conditions (h, λ k i. let (y, j, d, f) = w.replies k i in (y, j, (d, f)))),
     )
       where
         step : (o : Option Attack) → attack_in x ≡ o → forces g t l x o ≡ true → LostByAttack g t l x
-        step none e h = absurd (false≢true h)
-        step (some a) e h =
+        step None e h = absurd (false≢true h)
+        step (Some a) e h =
             let n = (attack-named x a).0 e in
             let (exists, replies) = simp conditions at h in
             record {

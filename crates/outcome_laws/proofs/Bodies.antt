@@ -6,7 +6,7 @@ use mathlib.Core.Logic.{◌⊎◌, inl, inr, ⊎_elim, ◌≢◌, ◌↔◌}
 use mathlib.Core.Bool.{Bool, true, false, ◌&&◌}
 use mathlib.Core.List.Memᴰ
 use mathlib.Core.List.{List, [], ◌∷◌, ◌++◌, flat_map, append_assoc, append-nil}
-use mathlib.Core.Option.{Option, none, some}
+use Rattle.std.specs.Prelude.{Option, None, Some}
 use native.Mathlib.Omega.{arith}
 use lib.ListN.{length, take, drop, length-drop, length-append, take-append-drop}
 use lib.Seq.{take_at, drop_at, length-take-le}
@@ -68,9 +68,9 @@ module _ (kind size : ℕ) where
       omega (arith, simp length-append at (ap length f))
 
   pub data Reading (l : List ℕ) : Option (List (List ℕ)) → Type 0 where
-    throughout : (bs : List (List ℕ)) → Whole size bs → l ≡ records kind bs → Reading l (some bs)
+    throughout : (bs : List (List ℕ)) → Whole size bs → l ≡ records kind bs → Reading l (Some bs)
     stopped : (bs : List (List ℕ)) (b : ℕ) (rest : List ℕ) → Whole size bs → l ≡ records kind bs ++ b ∷ rest → Stops b rest
-        → Reading l none
+        → Reading l None
 
   bodies_reading : (n : ℕ) (l : List ℕ) → length l < n → Reading l (bodies kind size n l)
   unfolding bodies records flat_map
@@ -110,27 +110,27 @@ module _ (kind size : ℕ) where
   -- ── The records that are read are those of which the bytes consist; where none are read, the bytes stop being records ──
 
   module _ (n : ℕ) (l : List ℕ) (enough : length l < n) where
-    pub bodies-some : (bs : List (List ℕ)) → (bodies kind size n l ≡ some bs) ↔ ((l ≡ records kind bs) × Whole size bs)
+    pub bodies-some : (bs : List (List ℕ)) → (bodies kind size n l ≡ Some bs) ↔ ((l ≡ records kind bs) × Whole size bs)
     bodies-some bs = (
       λ e. to (rw e at (bodies_reading n l enough)),
       λ (e, w). from e w (bodies kind size n l) (bodies_reading n l enough),
     )
       where
-        to : Reading l (some bs) → (l ≡ records kind bs) × Whole size bs
+        to : Reading l (Some bs) → (l ≡ records kind bs) × Whole size bs
         to (throughout bs w e) = (e, w)
 
-        from : l ≡ records kind bs → Whole size bs → (o : Option (List (List ℕ))) → Reading l o → o ≡ some bs
-        from e w o (throughout cs v f) = ap {B = Option (List (List ℕ))} some (records_injective cs bs v w (sym f ∙ e))
+        from : l ≡ records kind bs → Whole size bs → (o : Option (List (List ℕ))) → Reading l o → o ≡ Some bs
+        from e w o (throughout cs v f) = ap {B = Option (List (List ℕ))} Some (records_injective cs bs v w (sym f ∙ e))
         from e w o (stopped cs b rest v f s) =
             let (ds, i, j) = records_front cs bs (b ∷ rest) v w (sym e ∙ f) in
             absurd (stops_here ds b rest (λ d m. w d (rw i (Memᴰ.append_right cs m))) s j)
 
-    pub bodies_none : bodies kind size n l ≡ none
+    pub bodies_none : bodies kind size n l ≡ None
         → (bs : List (List ℕ)) × (b : ℕ) × (rest : List ℕ)
         × Whole size bs × (l ≡ records kind bs ++ b ∷ rest) × Stops b rest
     bodies_none e = to (rw e at (bodies_reading n l enough))
       where
-        to : Reading l none
+        to : Reading l None
             → (bs : List (List ℕ)) × (b : ℕ) × (rest : List ℕ)
             × Whole size bs × (l ≡ records kind bs ++ b ∷ rest) × Stops b rest
         to (stopped bs b rest w f s) = (bs, b, rest, w, f, s)

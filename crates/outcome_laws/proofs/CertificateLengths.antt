@@ -5,7 +5,7 @@ use mathlib.Core.Path.{◌≡◌, refl, ◌∙◌, ap}
 use mathlib.Core.Logic.{◌↔◌}
 use mathlib.Core.List.Memᴰ
 use mathlib.Core.List.{List, map}
-use mathlib.Core.Option.{Option, none, some}
+use Rattle.std.specs.Prelude.{Option, None, Some}
 use native.Mathlib.Nat.{mul-le-mul_right}
 use native.Mathlib.Omega.{arith}
 use lib.ListN.{length, length-map}
@@ -74,9 +74,9 @@ module _ {r : ℕ} {t : Task} (valid : Valid r t) (c : Contest) where
       where
         by : (o : Option ℕ) → rounds g t t.start ≡ o
             → CertificateTooLong c.rules t buffer ↔ (length buffer < length (certificate_by c t (rounds g t t.start)))
-        by none e = rw (e, kept-length w) (to, from)
+        by None e = rw (e, kept-length w) (to, from)
           where
-            w : KeptWritten c t (certificate_by c t none)
+            w : KeptWritten c t (certificate_by c t None)
             w = kept-left valid c
 
             never : NeverLost g t t.start
@@ -89,12 +89,12 @@ module _ {r : ℕ} {t : Task} (valid : Valid r t) (c : Contest) where
 
             from : length buffer < length w.positions * width_of Kept → CertificateTooLong c.rules t buffer
             from more = kept-too_long never w.positions (rising-unique w.positions w.rising) (λ p. (w.exactly p).0) more
-        by (some n) e = rw (e, losses-length w) (to, from)
+        by (Some n) e = rw (e, losses-length w) (to, from)
           where
             has-rank : HasRank g t t.start n
             has-rank = (rounds-least valid g n e).0
 
-            w : LossesWritten c t (certificate_by c t (some n))
+            w : LossesWritten c t (certificate_by c t (Some n))
             w = losses-left valid c n has-rank
 
             to : CertificateTooLong c.rules t buffer → length buffer < length (map place_of w.losses) * width_of Lost

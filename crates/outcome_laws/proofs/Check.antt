@@ -1,12 +1,12 @@
 -- What the checker answers on a task, number by number, for any register count and any contest whose two certificates have
 -- different kinds. Refusal 13 is at the end of `Malformed`. Assumes nothing.
 use Prim.Native.Nat.{ℕ, ◌<◌, ◌^◌}
+use Rattle.std.specs.Prelude.{Ok, Err}
 use mathlib.Core.Path.{◌≡◌, refl, sym, ◌∙◌, ap}
 use mathlib.Core.Logic.{◌⊎◌, inl, inr, ◌≢◌, ◌↔◌}
 use mathlib.Core.Bool.{true, false}
 use mathlib.Core.List.Memᴰ
 use mathlib.Core.List.{List, [], ◌∷◌, ◌++◌, map, flat_map, map-map}
-use native.Mathlib.Omega.{arith}
 use lib.ListN.{length}
 use Rattle.fra.specs.Lists.{◌∈◌}
 use Rattle.fra.specs.Position.{legal, before, bytes, Rising}
@@ -21,7 +21,8 @@ use Rattle.outcome.specs.Conditions.{Accepts, accepts-kept, accepts-lost}
 use Rattle.outcome.specs.Check.{check_task, judge_list, orderly, position_of, kept_accepted, loss_from, losses_accepted, start_rounds, same}
 use Rattle.outcome.specs.Refusals.{Kind, of-kept, of-lost, records, Malformed, NotAccepted}
 use Rattle.outcome.specs.declared.Verdict.{Verdict}
-use Rattle.outcome.specs.declared.Check.TheVariants.{Accepted, Refused}
+use Rattle.outcome.specs.declared.Acceptance.{Acceptance}
+use Rattle.task.specs.declared.Refusal.{Refusal}
 use Rattle.fra_laws.proofs.Legal.{legal_facts}
 use Rattle.outcome_laws.proofs.Bodies.{Whole}
 use Rattle.outcome_laws.proofs.Orderly.{orderly_passes}
@@ -91,7 +92,7 @@ module _ (r : ℕ) (c : Contest) (t : Task) (differ : kind_of c.kept ≢ kind_of
 
   kept-answer : (l : List Position) → ((p : Position) → p ∈ l → legal r t p ≡ true)
       → check_task r c t (flat_map (kept_record (kind_of c.kept)) l)
-      ≡ judge_list (orderly r t l) (kept_accepted c.rules t l) (Accepted c.kept 0)
+      ≡ judge_list (orderly r t l) (kept_accepted c.rules t l) (record { verdict = c.kept; rounds = 0 })
   unfolding kept_record
   kept-answer l are_legal =
       let (e, f) =
@@ -102,7 +103,7 @@ module _ (r : ℕ) (c : Contest) (t : Task) (differ : kind_of c.kept ≢ kind_of
   lost-answer : (l : List Loss) → ((x : Loss) → x ∈ l → legal r t x.position ≡ true)
       → ((x : Loss) → x ∈ l → x.rounds < 2 ^ 32)
       → check_task r c t (flat_map (loss_record (kind_of c.lost)) l)
-      ≡ judge_list (orderly r t (map place_of l)) (losses_accepted c.rules t l) (Accepted c.lost (start_rounds t l))
+      ≡ judge_list (orderly r t (map place_of l)) (losses_accepted c.rules t l) (record { verdict = c.lost; rounds = start_rounds t l })
   unfolding loss_record
   lost-answer l are_legal are_words =
       let (e, f) =
@@ -145,7 +146,7 @@ module _ (r : ℕ) (c : Contest) (t : Task) (differ : kind_of c.kept ≢ kind_of
   -- ── What the checker answers: acceptance, refusal 14, and besides these only refusal 13 ──
 
   -- whoever wrote the list
-  pub check-accepts : {l : List ℕ} {v : Verdict} {n : ℕ} → Accepts r c t l v n → check_task r c t l ≡ Accepted v n
+  pub check-accepts : {l : List ℕ} {v : Verdict} {n : ℕ} → Accepts r c t l v n → check_task r c t l ≡ Ok (record { verdict = v; rounds = n })
   unfolding judge_list
   check-accepts (accepts-kept l e rises condition) =
       let are_legal = condition.bisimulation.are_legal in
@@ -164,62 +165,63 @@ module _ (r : ℕ) (c : Contest) (t : Task) (differ : kind_of c.kept ≢ kind_of
       ))
 
   pub check_accepted : (l : List ℕ) → Bytes l → (v : Verdict) (n : ℕ)
-      → (check_task r c t l ≡ Accepted v n) ↔ Accepts r c t l v n
+      → (check_task r c t l ≡ Ok (record { verdict = v; rounds = n })) ↔ Accepts r c t l v n
   check_accepted l h v n = (to (answer r c t differ l), check-accepts)
     where
-      to : Answer r c t differ l → check_task r c t l ≡ Accepted v n → Accepts r c t l v n
+      to : Answer r c t differ l → check_task r c t l ≡ Ok (record { verdict = v; rounds = n }) → Accepts r c t l v n
       to (malformed m e) f = clash (cc)
       to (rejected b a e) f = clash (cc)
       to (accepted b a e) f =
-          let i : v ≡ verdict r c t b.known = cc in
-          let j : n ≡ rounds r c t b.known b.bodies = cc in
+          let same : ◌≡◌ {A = Acceptance} (record { verdict = v; rounds = n }) (record { verdict = verdict r c t b.known; rounds = rounds r c t b.known b.bodies }) = cc in
+          let i = ap (λ (a : Acceptance). a.verdict) same in
+          let j = ap (λ (a : Acceptance). a.rounds) same in
           rw (i, j, b.consists) (accepted_list b.known b.bodies b.whole (rw b.consists at h) b.order a)
 
-  pub check-refused_14 : (l : List ℕ) → Bytes l → (check_task r c t l ≡ Refused 14) ↔ NotAccepted r c t l
+  pub check-refused_14 : (l : List ℕ) → Bytes l → (check_task r c t l ≡ Err Refusal.NotAccepted) ↔ NotAccepted r c t l
   check-refused_14 l h = (
     λ e. record {
       well_formed = λ m.
           let f = (check-refused_13 r c t differ l).1 m in
-          let z : ◌≡◌ {A = ℕ} 13 14 = cc in
-          omega arith;
+          clash (cc);
       unmet = λ v n a. let f = check-accepts a in clash (cc);
     },
     from (answer r c t differ l),
   )
     where
-      from : Answer r c t differ l → NotAccepted r c t l → check_task r c t l ≡ Refused 14
+      from : Answer r c t differ l → NotAccepted r c t l → check_task r c t l ≡ Err Refusal.NotAccepted
       from (malformed m e) n = absurd (n.well_formed m)
       from (rejected b a e) n = e
       from (accepted b a e) n = absurd (n.unmet _ _ ((check_accepted l h _ _).0 e))
 
   pub check-answers : (l : List ℕ)
-      → (check_task r c t l ≡ Refused 13)
-      ⊎ (check_task r c t l ≡ Refused 14)
-      ⊎ (v : Verdict) × (n : ℕ) × (check_task r c t l ≡ Accepted v n)
+      → (check_task r c t l ≡ Err Refusal.Malformed)
+      ⊎ (check_task r c t l ≡ Err Refusal.NotAccepted)
+      ⊎ (v : Verdict) × (n : ℕ) × (check_task r c t l ≡ Ok (record { verdict = v; rounds = n }))
   check-answers l = of (answer r c t differ l)
     where
       of : Answer r c t differ l
-          → (check_task r c t l ≡ Refused 13)
-          ⊎ (check_task r c t l ≡ Refused 14)
-          ⊎ (v : Verdict) × (n : ℕ) × (check_task r c t l ≡ Accepted v n)
+          → (check_task r c t l ≡ Err Refusal.Malformed)
+          ⊎ (check_task r c t l ≡ Err Refusal.NotAccepted)
+          ⊎ (v : Verdict) × (n : ℕ) × (check_task r c t l ≡ Ok (record { verdict = v; rounds = n }))
       of (malformed m e) = inl e
       of (rejected b a e) = inr (inl e)
       of (accepted b a e) = inr (inr (verdict r c t b.known, rounds r c t b.known b.bodies, e))
 
-  -- each refusal in its case, and no other number
-  pub check-refused : (l : List ℕ) → Bytes l → (n : ℕ)
-      → (check_task r c t l ≡ Refused n) ↔ (((n ≡ 13) × Malformed r c t l) ⊎ (n ≡ 14) × NotAccepted r c t l)
-  check-refused l h n = (to (check-answers l), from)
+  -- each refusal in its case, and no other
+  pub check-refused : (l : List ℕ) → Bytes l → (e : Refusal)
+      → (check_task r c t l ≡ Err e) ↔ (((e ≡ Refusal.Malformed) × Malformed r c t l) ⊎ (e ≡ Refusal.NotAccepted) × NotAccepted r c t l)
+  check-refused l h e = (to (check-answers l), from)
     where
-      to : (check_task r c t l ≡ Refused 13)
-          ⊎ (check_task r c t l ≡ Refused 14)
-          ⊎ (v : Verdict) × (m : ℕ) × (check_task r c t l ≡ Accepted v m)
-          → check_task r c t l ≡ Refused n
-          → ((n ≡ 13) × Malformed r c t l) ⊎ (n ≡ 14) × NotAccepted r c t l
-      to (inl a) e = let d : n ≡ 13 = cc in inl (d, (check-refused_13 r c t differ l).0 a)
-      to (inr (inl a)) e = let d : n ≡ 14 = cc in inr (d, (check-refused_14 l h).0 a)
-      to (inr (inr (v, m, a))) e = clash (cc)
+      to : (check_task r c t l ≡ Err Refusal.Malformed)
+          ⊎ (check_task r c t l ≡ Err Refusal.NotAccepted)
+          ⊎ (v : Verdict) × (m : ℕ) × (check_task r c t l ≡ Ok (record { verdict = v; rounds = m }))
+          → check_task r c t l ≡ Err e
+          → ((e ≡ Refusal.Malformed) × Malformed r c t l) ⊎ (e ≡ Refusal.NotAccepted) × NotAccepted r c t l
+      to (inl a) f = let d : e ≡ Refusal.Malformed = cc in inl (d, (check-refused_13 r c t differ l).0 a)
+      to (inr (inl a)) f = let d : e ≡ Refusal.NotAccepted = cc in inr (d, (check-refused_14 l h).0 a)
+      to (inr (inr (v, m, a))) f = clash (cc)
 
-      from : ((n ≡ 13) × Malformed r c t l) ⊎ (n ≡ 14) × NotAccepted r c t l → check_task r c t l ≡ Refused n
+      from : ((e ≡ Refusal.Malformed) × Malformed r c t l) ⊎ (e ≡ Refusal.NotAccepted) × NotAccepted r c t l
+          → check_task r c t l ≡ Err e
       from (inl (d, m)) = rw d ((check-refused_13 r c t differ l).1 m)
       from (inr (d, m)) = rw d ((check-refused_14 l h).1 m)

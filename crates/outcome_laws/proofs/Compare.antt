@@ -1,10 +1,10 @@
 -- The outcome of a comparison, case by case: 11, 12 or a verdict, and what each says. Assumes nothing.
 use Prim.Native.Nat.{ℕ, suc, ◌≤◌, ◌<◌}
+use Rattle.std.specs.Prelude.{Ok, Err, Option, None, Some}
 use mathlib.Core.Path.{◌≡◌, refl, sym, ◌∙◌, ap}
 use mathlib.Core.Logic.{◌⊎◌, inl, inr, ◌↔◌}
 use mathlib.Core.Bool.{Bool, true, false}
 use mathlib.Core.List.{List}
-use mathlib.Core.Option.{Option, none, some}
 use native.Mathlib.Omega.{arith}
 use lib.ListN.{length}
 use lib.Dec.{ltb}
@@ -20,7 +20,8 @@ use Rattle.outcome.specs.Certificate.{entries, certificate_by}
 use Rattle.outcome.specs.Compare.{Outcome, capacity, decided, refused_late, judge, compare_task}
 use Rattle.outcome.specs.Check.{kept_length, loss_length}
 use Rattle.outcome.specs.declared.Standing.TheVariants.{Kept, Lost}
-use Rattle.outcome.specs.declared.Comparison.TheVariants.{Decided, Refused}
+use Rattle.outcome.specs.declared.Comparison.{Comparison}
+use Rattle.task.specs.declared.Refusal.{Refusal}
 use Rattle.outcome.specs.declared.Verdict.{Verdict}
 use Rattle.outcome.specs.Refusals.{TableTooSmall, CertificateTooLong}
 use Rattle.outcome_laws.proofs.CertificateLengths.{too_long-exactly}
@@ -36,15 +37,15 @@ module _ (c : Contest) (t : Task) (table buffer : List ℕ) where
   abbrev found : Outcome
   found =
       record {
-        answer = decided c (length (reached c.rules t)) start (length written);
+        answer = Ok (decided c (length (reached c.rules t)) start (length written));
         table = then_zeros (entries c.rules t) table;
         certificate = then_rest written buffer;
       }
 
   pub data Compared : Outcome → Type 0 where
-    too_small : capacity table < length (reached c.rules t) → Compared (refused_late 11 table buffer)
+    too_small : capacity table < length (reached c.rules t) → Compared (refused_late Refusal.TableTooSmall table buffer)
     too_long_lem : length (reached c.rules t) ≤ capacity table → length buffer < length written
-        → Compared (refused_late 12 table buffer)
+        → Compared (refused_late Refusal.BufferTooSmall table buffer)
     verdict : length (reached c.rules t) ≤ capacity table → length written ≤ length buffer → Compared found
 
   pub compared : Compared (compare_task c t table buffer)
@@ -69,70 +70,67 @@ module _ (c : Contest) (t : Task) (table buffer : List ℕ) where
   pub record Says (v : Verdict) (positions n size : ℕ) : Type 0 where
     pub count : positions ≡ length (reached c.rules t)
     pub bytes : size ≡ length written
-    pub start : ((v ≡ c.kept) × (start ≡ none) × (n ≡ 0)) ⊎ (v ≡ c.lost) × (start ≡ some n)
+    pub start : ((v ≡ c.kept) × (start ≡ None) × (n ≡ 0)) ⊎ (v ≡ c.lost) × (start ≡ Some n)
     pub fits : size ≤ length buffer
     pub outcome : compare_task c t table buffer ≡ found
 
   decided_says : (v : Verdict) (positions n size : ℕ) (o : Option ℕ) → start ≡ o
-      → decided c (length (reached c.rules t)) o (length written) ≡ Decided v positions n size
+      → decided c (length (reached c.rules t)) o (length written) ≡ record { verdict = v; positions = positions; rounds = n; length = size }
       → length written ≤ length buffer
       → compare_task c t table buffer ≡ found
       → Says v positions n size
   unfolding decided
-  decided_says v positions n size none e d l f =
+  decided_says v positions n size None e d l f =
+      let long = sym (ap (λ (a : Comparison). a.length) d) in
       record {
-        count = cc;
-        bytes = cc;
-        start = let a : v ≡ c.kept = cc in let b : n ≡ 0 = cc in inl (a, e, b);
-        fits = let long : size ≡ length written = cc in omega arith;
+        count = sym (ap (λ (a : Comparison). a.positions) d);
+        bytes = long;
+        start = inl (sym (ap (λ (a : Comparison). a.verdict) d), e, sym (ap (λ (a : Comparison). a.rounds) d));
+        fits = omega arith;
         outcome = f;
       }
-  decided_says v positions n size (some k) e d l f =
+  decided_says v positions n size (Some k) e d l f =
+      let long = sym (ap (λ (a : Comparison). a.length) d) in
+      let least = ap (λ (a : Comparison). a.rounds) d in
       record {
-        count = cc;
-        bytes = cc;
-        start = let a : v ≡ c.lost = cc in let b : k ≡ n = cc in inr (a, e ∙ ap {B = Option ℕ} some b);
-        fits = let long : size ≡ length written = cc in omega arith;
+        count = sym (ap (λ (a : Comparison). a.positions) d);
+        bytes = long;
+        start = inr (sym (ap (λ (a : Comparison). a.verdict) d), e ∙ ap {B = Option ℕ} Some least);
+        fits = omega arith;
         outcome = f;
       }
 
   pub verdict_says : (v : Verdict) (positions n size : ℕ)
-      → (compare_task c t table buffer).answer ≡ Decided v positions n size
+      → (compare_task c t table buffer).answer ≡ Ok (record { verdict = v; positions = positions; rounds = n; length = size })
       → Says v positions n size
   unfolding refused_late
   verdict_says v positions n size = by compared refl
     where
-      by : {o : Outcome} → Compared o → compare_task c t table buffer ≡ o → o.answer ≡ Decided v positions n size
+      by : {o : Outcome} → Compared o → compare_task c t table buffer ≡ o → o.answer ≡ Ok (record { verdict = v; positions = positions; rounds = n; length = size })
           → Says v positions n size
       by (too_small h) f e = clash (cc)
       by (too_long_lem h l) f e = clash (cc)
-      by (verdict h l) f e = decided_says v positions n size start refl e l f
+      by (verdict h l) f e = decided_says v positions n size start refl (cc) l f
 
   -- ── Refusals 11 and 12, each in its case ──
 
-  -- a verdict is no refusal
-  decided_not_refused : (positions size n : ℕ) (o : Option ℕ) → decided c positions o size ≡ Refused n → ⊥
-  unfolding decided
-  decided_not_refused positions size n none e = clash (cc)
-  decided_not_refused positions size n (some k) e = clash (cc)
-
   -- both fill the table with zeros and leave the certificate buffer
-  pub late_outcome : (n : ℕ) → (compare_task c t table buffer).answer ≡ Refused n
-      → compare_task c t table buffer ≡ record { answer = Refused n; table = cleared table; certificate = buffer }
+  pub late_outcome : (e : Refusal) → (compare_task c t table buffer).answer ≡ Err e
+      → compare_task c t table buffer ≡ record { answer = Err e; table = cleared table; certificate = buffer }
   unfolding refused_late
-  late_outcome n = by compared
+  late_outcome e = by compared
     where
-      late : (m : ℕ) → m ≡ n
+      late : (f : Refusal) → f ≡ e
           → ◌≡◌ {A = Outcome}
-          (record { answer = Refused m; table = cleared table; certificate = buffer })
-          (record { answer = Refused n; table = cleared table; certificate = buffer })
-      late m d = ap (λ (k : ℕ). record { answer = Refused k; table = cleared table; certificate = buffer }) d
+          (record { answer = Err f; table = cleared table; certificate = buffer })
+          (record { answer = Err e; table = cleared table; certificate = buffer })
+      late f d = ap (λ (x : Refusal). record { answer = Err x; table = cleared table; certificate = buffer }) d
 
-      by : {o : Outcome} → Compared o → o.answer ≡ Refused n
-          → o ≡ record { answer = Refused n; table = cleared table; certificate = buffer }
-      by (too_small h) e = late 11 (cc)
-      by (too_long_lem h l) e = late 12 (cc)
-      by (verdict h l) e = absurd (decided_not_refused (length (reached c.rules t)) (length written) n start e)
+      by : {o : Outcome} → Compared o → o.answer ≡ Err e
+          → o ≡ record { answer = Err e; table = cleared table; certificate = buffer }
+      by (too_small h) d = late Refusal.TableTooSmall (cc)
+      by (too_long_lem h l) d = late Refusal.BufferTooSmall (cc)
+      by (verdict h l) d = clash (cc)
 
   module _ {r : ℕ} (valid : Valid r t) where
     pub too_small-exactly : (capacity table < length (reached c.rules t)) ↔ TableTooSmall c.rules t table
@@ -150,31 +148,31 @@ module _ (c : Contest) (t : Task) (table buffer : List ℕ) where
     )
 
     -- the cases of 11 and 12
-    abbrev pub Late : ℕ → Type 0
-    Late n =
-        ((n ≡ 11) × TableTooSmall c.rules t table)
-        ⊎ (n ≡ 12) × (TableTooSmall c.rules t table → ⊥) × CertificateTooLong c.rules t buffer
+    abbrev pub Late : Refusal → Type 0
+    Late e =
+        ((e ≡ Refusal.TableTooSmall) × TableTooSmall c.rules t table)
+        ⊎ (e ≡ Refusal.BufferTooSmall) × (TableTooSmall c.rules t table → ⊥) × CertificateTooLong c.rules t buffer
 
     -- where records are as wide as those of r registers
     pub refused-exactly : width_of Kept ≡ suc (kept_length r) → width_of Lost ≡ suc (loss_length r)
-        → (n : ℕ) → ((compare_task c t table buffer).answer ≡ Refused n) ↔ Late n
+        → (e : Refusal) → ((compare_task c t table buffer).answer ≡ Err e) ↔ Late e
     unfolding refused_late
-    refused-exactly kept_wide lost_wide n = (to compared, from compared)
+    refused-exactly kept_wide lost_wide e = (to compared, from compared)
       where
         long-exactly : CertificateTooLong c.rules t buffer ↔ (length buffer < length written)
         long-exactly = too_long-exactly valid c kept_wide lost_wide buffer
 
-        to : {o : Outcome} → Compared o → o.answer ≡ Refused n → Late n
-        to (too_small h) e = let d : n ≡ 11 = cc in inl (d, too_small-exactly.0 h)
-        to (too_long_lem h l) e =
-            let d : n ≡ 12 = cc in
+        to : {o : Outcome} → Compared o → o.answer ≡ Err e → Late e
+        to (too_small h) f = let d : e ≡ Refusal.TableTooSmall = cc in inl (d, too_small-exactly.0 h)
+        to (too_long_lem h l) f =
+            let d : e ≡ Refusal.BufferTooSmall = cc in
             inr (d, λ small. let s = too_small-exactly.1 small in omega arith, long-exactly.1 l)
-        to (verdict h l) e = absurd (decided_not_refused (length (reached c.rules t)) (length written) n start e)
+        to (verdict h l) f = clash (cc)
 
-        from : {o : Outcome} → Compared o → Late n → o.answer ≡ Refused n
-        from (too_small h) (inl (d, small)) = ap (λ (k : ℕ). Refused k) (sym d)
+        from : {o : Outcome} → Compared o → Late e → o.answer ≡ Err e
+        from (too_small h) (inl (d, small)) = cc
         from (too_small h) (inr (d, fits, long)) = absurd (fits (too_small-exactly.0 h))
         from (too_long_lem h l) (inl (d, small)) = let s = too_small-exactly.1 small in absurd (omega arith)
-        from (too_long_lem h l) (inr (d, fits, long)) = ap (λ (k : ℕ). Refused k) (sym d)
+        from (too_long_lem h l) (inr (d, fits, long)) = cc
         from (verdict h l) (inl (d, small)) = let s = too_small-exactly.1 small in absurd (omega arith)
         from (verdict h l) (inr (d, fits, long)) = let s = long-exactly.0 long in absurd (omega arith)

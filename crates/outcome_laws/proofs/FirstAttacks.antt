@@ -5,7 +5,7 @@ use mathlib.Core.Path.{◌≡◌, refl}
 use mathlib.Core.Logic.{◌↔◌}
 use mathlib.Core.Bool.{true}
 use mathlib.Core.List.Memᴰ
-use mathlib.Core.Option.{Option, none, some}
+use Rattle.std.specs.Prelude.{Option, None, Some}
 use Rattle.fra.specs.Lists.{◌∈◌}
 use Rattle.fra.specs.Rules.{Rules}
 use Rattle.fra.specs.Game.{attacks, replies, after, lost_within, HasRank}
@@ -27,7 +27,7 @@ module _ (g : Rules) (t : Task) (n : ℕ) (p : Position) where
   unfolding wins
   wins-exactly a = (λ w k. all-at (λ k. lost_within g t n (after t p a k)) w, all_intro _ (replies t p a))
 
-  pub chosen-first : (a : Attack) → (chosen g t n p ≡ some a) ↔ FirstAttack g t p n a
+  pub chosen-first : (a : Attack) → (chosen g t n p ≡ Some a) ↔ FirstAttack g t p n a
   unfolding chosen
   chosen-first a = (
     λ h.
@@ -47,7 +47,7 @@ module _ (g : Rules) (t : Task) (n : ℕ) (p : Position) where
   )
 
   -- there is none exactly if the replies to no attack are all lost
-  pub chosen_none : (chosen g t n p ≡ none) ↔ ((a : Attack) → a ∈ attacks g t p → RepliesLost g t p n a → ⊥)
+  pub chosen_none : (chosen g t n p ≡ None) ↔ ((a : Attack) → a ∈ attacks g t p → RepliesLost g t p n a → ⊥)
   unfolding chosen
   chosen_none = (
     λ h a m w. any_none (wins g t n p) (first_none (wins g t n p) (attacks g t p) h) m ((wins-exactly a).1 w),
@@ -62,5 +62,5 @@ module _ (g : Rules) (t : Task) (n : ℕ) (p : Position) where
   ranked-first h = found (chosen g t n p) refl
     where
       found : (o : Option Attack) → chosen g t n p ≡ o → (a : Attack) × FirstAttack g t p n a
-      found none e = let (a, m, w) = ((rank-rounds g t p n).0 h).1 in absurd (chosen_none.0 e a m w)
-      found (some a) e = (a, (chosen-first a).0 e)
+      found None e = let (a, m, w) = ((rank-rounds g t p n).0 h).1 in absurd (chosen_none.0 e a m w)
+      found (Some a) e = (a, (chosen-first a).0 e)

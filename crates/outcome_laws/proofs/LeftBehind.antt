@@ -6,7 +6,7 @@ use mathlib.Core.Path.{◌≡◌, refl, sym, subst}
 use mathlib.Core.Logic.{inl, inr}
 use mathlib.Core.List.Memᴰ
 use mathlib.Core.List.{map}
-use mathlib.Core.Option.{Option, none, some}
+use Rattle.std.specs.Prelude.{Option, None, Some}
 use Rattle.fra.specs.Lists.{◌∈◌}
 use Rattle.fra.specs.Rules.{Rules}
 use Rattle.fra.specs.Game.{HasRank}
@@ -34,8 +34,8 @@ module _ {r : ℕ} {t : Task} (valid : Valid r t) (g : Rules) where
   rounds-of p m = by (rank g t (N valid g) p) refl
     where
       by : (o : Option ℕ) → rank g t (N valid g) p ≡ o → RoundsOf g t p (rounds_or_never (rank g t (N valid g) p))
-      by none e = rw e (inr ((rank_never g t (reached g t) (reached-closed valid g) p m).0 e, refl))
-      by (some k) e = rw e (inl ((rank-found valid g p k m).0 e))
+      by None e = rw e (inr ((rank_never g t (reached g t) (reached-closed valid g) p m).0 e, refl))
+      by (Some k) e = rw e (inl ((rank-found valid g p k m).0 e))
 
   pub table-left : TableHolds g t (entries g t)
   unfolding entries entry entry_bytes entry_of
@@ -76,7 +76,7 @@ module _ {r : ℕ} {t : Task} (valid : Valid r t) (c : Contest) where
   abbrev g : Rules
   g = c.rules
 
-  pub kept-left : KeptWritten c t (certificate_by c t none)
+  pub kept-left : KeptWritten c t (certificate_by c t None)
   unfolding certificate_by
   kept-left =
       record {
@@ -86,7 +86,7 @@ module _ {r : ℕ} {t : Task} (valid : Valid r t) (c : Contest) where
         exactly = kept-exactly valid g;
       }
 
-  pub losses-left : (n : ℕ) → HasRank g t t.start n → LossesWritten c t (certificate_by c t (some n))
+  pub losses-left : (n : ℕ) → HasRank g t t.start n → LossesWritten c t (certificate_by c t (Some n))
   unfolding certificate_by losses
   losses-left n h =
       record {

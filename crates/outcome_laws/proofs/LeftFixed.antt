@@ -15,7 +15,8 @@ use Rattle.fra_laws.proofs.Lists.{keys-same}
 use Rattle.fra_laws.proofs.Order.{rising-same}
 use Rattle.fra_laws.proofs.Ranks.{same_rank}
 use Rattle.outcome.specs.Verdicts.{Contest, kind_of}
-use Rattle.outcome.specs.Certificate.{kept_record, side_number, case_number, Loss, place_of, loss_record}
+use Rattle.fra.specs.AttackNumbers.{side_number, case_number}
+use Rattle.outcome.specs.Certificate.{kept_record, Loss, place_of, loss_record}
 use Rattle.outcome.specs.Listed.{RoundsOf, Entry, entry_bytes, TableHolds, KeptWritten, FirstAttack, NamesNoAttack, NamesFirstAttack, LossOf, LossesWritten}
 use Rattle.outcome_laws.proofs.FirstAttacks.{chosen-first}
 

@@ -6,7 +6,7 @@ use mathlib.Core.Logic.{◌⊎◌, inl, inr, ⊎_elim, ◌≢◌, ◌↔◌}
 use mathlib.Core.Bool.{Bool, true, false}
 use mathlib.Core.List.Memᴰ
 use mathlib.Core.List.{List, [], ◌∷◌, ◌++◌, map, flat_map, map-map, append-nil, append_assoc}
-use mathlib.Core.Option.{Option, none, some}
+use Rattle.std.specs.Prelude.{Result, Ok, Err, Option, None, Some}
 use native.Mathlib.Omega.{arith}
 use native.Mathlib.Decide.{ℕ_discrete}
 use lib.ListN.{length}
@@ -18,8 +18,8 @@ use Rattle.outcome.specs.Certificate.{Loss}
 use Rattle.outcome.specs.Check.{check_task, check_kept, check_losses, judge_list, bodies, orderly, rising, position_of, kept_accepted, loss_from, losses_accepted, start_rounds, kept_length, loss_length}
 use Rattle.outcome.specs.Refusals.{Kind, of-kept, of-lost, records, Begins, Malformed, unknown-kind, two_kinds, cut-body, illegal, not_rising}
 use Rattle.outcome.specs.declared.Verdict.{Verdict}
-use Rattle.outcome.specs.declared.Check.{Check}
-use Rattle.outcome.specs.declared.Check.TheVariants.{Accepted, Refused}
+use Rattle.outcome.specs.declared.Acceptance.{Acceptance}
+use Rattle.task.specs.declared.Refusal.{Refusal}
 use Rattle.fra_laws.proofs.Tests.{clash, not_both}
 use Rattle.outcome_laws.proofs.Bodies.{Whole, Stops, records_front, stops_here, bodies-some, bodies_none}
 use Rattle.outcome_laws.proofs.Orderly.{orderly_fails}
@@ -45,19 +45,19 @@ module _ (r : ℕ) (c : Contest) (t : Task) where
   rounds of-kept bs = 0
   rounds of-lost bs = start_rounds t (map (loss_from r) bs)
 
-  abbrev pub judged : {kind size : ℕ} → Kind r c kind size → List (List ℕ) → Check
-  judged k bs = judge_list (orderly r t (map (position_of r) bs)) (accepts k bs) (Accepted (verdict k) (rounds k bs))
+  abbrev pub judged : {kind size : ℕ} → Kind r c kind size → List (List ℕ) → Result Acceptance Refusal
+  judged k bs = judge_list (orderly r t (map (position_of r) bs)) (accepts k bs) (record { verdict = verdict k; rounds = rounds k bs })
 
-  abbrev check_records : {kind size : ℕ} → Kind r c kind size → Option (List (List ℕ)) → Check
+  abbrev check_records : {kind size : ℕ} → Kind r c kind size → Option (List (List ℕ)) → Result Acceptance Refusal
   check_records of-kept = check_kept r c t
   check_records of-lost = check_losses r c t
 
-  records-judged : {kind size : ℕ} (k : Kind r c kind size) (bs : List (List ℕ)) → check_records k (some bs) ≡ judged k bs
+  records-judged : {kind size : ℕ} (k : Kind r c kind size) (bs : List (List ℕ)) → check_records k (Some bs) ≡ judged k bs
   unfolding check_kept check_losses loss_from
   records-judged of-kept bs = refl
   records-judged of-lost bs = rw (map-map (λ (x : Loss). x.position) (loss_from r) bs)
 
-  none_checked : {kind size : ℕ} (k : Kind r c kind size) → check_records k none ≡ Refused 13
+  none_checked : {kind size : ℕ} (k : Kind r c kind size) → check_records k None ≡ Err Refusal.Malformed
   unfolding check_kept check_losses
   none_checked of-kept = refl
   none_checked of-lost = refl
@@ -176,10 +176,10 @@ module _ (r : ℕ) (c : Contest) (t : Task) where
       pub order : orderly r t (map (position_of r) bodies) ≡ true
 
     pub data Answer (l : List ℕ) : Type 0 where
-      malformed : Malformed r c t l → check_task r c t l ≡ Refused 13 → Answer l
-      rejected : (f : Formed l) → accepts f.known f.bodies ≡ false → check_task r c t l ≡ Refused 14 → Answer l
+      malformed : Malformed r c t l → check_task r c t l ≡ Err Refusal.Malformed → Answer l
+      rejected : (f : Formed l) → accepts f.known f.bodies ≡ false → check_task r c t l ≡ Err Refusal.NotAccepted → Answer l
       accepted : (f : Formed l) → accepts f.known f.bodies ≡ true
-          → check_task r c t l ≡ Accepted (verdict f.known) (rounds f.known f.bodies)
+          → check_task r c t l ≡ Ok (record { verdict = verdict f.known; rounds = rounds f.known f.bodies })
           → Answer l
 
     answer-whole : {kind size : ℕ} (k : Kind r c kind size) (bs : List (List ℕ)) → Whole size bs → Answer (records kind bs)
@@ -204,10 +204,10 @@ module _ (r : ℕ) (c : Contest) (t : Task) where
         stops bs b rest w f (inr (i, h)) = cut-body {size = size} (begins k bs (b ∷ rest) w f) (rw i k) h
 
         step : (o : Option (List (List ℕ))) → bodies kind size (suc (length (kind ∷ l))) (kind ∷ l) ≡ o → Answer (kind ∷ l)
-        step (some bs) e =
+        step (Some bs) e =
             let (f, w) = (bodies-some kind size (suc (length (kind ∷ l))) (kind ∷ l) (omega arith) bs).0 e in
             rw f (answer-whole k bs w)
-        step none e =
+        step None e =
             let (bs, b, rest, w, f, s) = bodies_none kind size (suc (length (kind ∷ l))) (kind ∷ l) (omega arith) e in
             malformed (stops bs b rest w f s) (check-first k l ∙ ap (check_records k) e ∙ none_checked k)
 
@@ -232,15 +232,15 @@ module _ (r : ℕ) (c : Contest) (t : Task) where
 
     -- ── Refusal 13 ──
 
-    pub check-refused_13 : (l : List ℕ) → (check_task r c t l ≡ Refused 13) ↔ Malformed r c t l
+    pub check-refused_13 : (l : List ℕ) → (check_task r c t l ≡ Err Refusal.Malformed) ↔ Malformed r c t l
     check-refused_13 l = (to (answer l), from (answer l))
       where
-        to : Answer l → check_task r c t l ≡ Refused 13 → Malformed r c t l
+        to : Answer l → check_task r c t l ≡ Err Refusal.Malformed → Malformed r c t l
         to (malformed m e) h = m
-        to (rejected f a e) h = let z : ◌≡◌ {A = ℕ} 13 14 = cc in absurd (omega arith)
+        to (rejected f a e) h = clash (cc)
         to (accepted f a e) h = clash (cc)
 
-        from : Answer l → Malformed r c t l → check_task r c t l ≡ Refused 13
+        from : Answer l → Malformed r c t l → check_task r c t l ≡ Err Refusal.Malformed
         from (malformed m e) n = e
         from (rejected f a e) n = absurd (formed_not_malformed l f n)
         from (accepted f a e) n = absurd (formed_not_malformed l f n)

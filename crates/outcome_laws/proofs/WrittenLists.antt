@@ -6,7 +6,7 @@ use mathlib.Core.Logic.{◌↔◌}
 use mathlib.Core.Bool.{true, false≢true}
 use mathlib.Core.List.Memᴰ
 use mathlib.Core.List.{List, [], ◌∷◌, map}
-use mathlib.Core.Option.{Option, none, some}
+use Rattle.std.specs.Prelude.{Option, None, Some}
 use lib.ListN.{length}
 use Rattle.fra.specs.Lists.{◌∈◌}
 use Rattle.fra.specs.Rules.{Rules}
@@ -27,15 +27,15 @@ use Rattle.outcome.specs.Certificate.{place_of, is_never, kept_positions, chosen
 use Rattle.outcome.specs.Listed.{FirstAttack, Led, at-start, by_reply}
 use Rattle.outcome_laws.proofs.FirstAttacks.{first-exists, chosen-first}
 
-never_none : (o : Option ℕ) → is_never o ≡ true → o ≡ none
-never_none none h = refl
-never_none (some n) h = absurd (false≢true h)
+never_none : (o : Option ℕ) → is_never o ≡ true → o ≡ None
+never_none None h = refl
+never_none (Some n) h = absurd (false≢true h)
 
 -- the position of a record, whatever attack it names
 pub loss_position : (p : Position) (n : Option ℕ) (o : Option Attack) → (loss_with p n o).position ≡ p
 unfolding loss_with
-loss_position p n none = refl
-loss_position p n (some a) = refl
+loss_position p n None = refl
+loss_position p n (Some a) = refl
 
 -- what the first attacks lead to is reached
 pub led_is_reached : {g : Rules} {t : Task} {p : Position} → Led g t p → Reached g t p
@@ -57,16 +57,16 @@ module _ {r : ℕ} {t : Task} (valid : Valid r t) (g : Rules) where
   reached-closed p m a n k o = reached-after valid g p a k m n o
 
   -- the start's rounds: none exactly if it is never lost, and else its rank, at most the count of positions reached
-  pub rounds_never : (rounds g t t.start ≡ none) ↔ NeverLost g t t.start
+  pub rounds_never : (rounds g t t.start ≡ None) ↔ NeverLost g t t.start
   unfolding rounds
   rounds_never = rank_never g t (reached g t) reached-closed t.start (reached-start valid g)
 
-  pub rounds-least : (n : ℕ) → rounds g t t.start ≡ some n → HasRank g t t.start n × (n ≤ length (reached g t))
+  pub rounds-least : (n : ℕ) → rounds g t t.start ≡ Some n → HasRank g t t.start n × (n ≤ length (reached g t))
   unfolding rounds
   rounds-least n e = (rank-exactly g t (length (reached g t)) t.start n).0 e
 
   -- a position reached has the rank that is found
-  pub rank-found : (p : Position) (k : ℕ) → p ∈ reached g t → (rank g t N p ≡ some k) ↔ HasRank g t p k
+  pub rank-found : (p : Position) (k : ℕ) → p ∈ reached g t → (rank g t N p ≡ Some k) ↔ HasRank g t p k
   rank-found p k m = (
     λ e. ((rank-exactly g t N p k).0 e).0,
     λ h. (rank-exactly g t N p k).1 (h, rank-at-most-length g t (reached g t) reached-closed p m k h),
@@ -107,11 +107,11 @@ module _ {r : ℕ} {t : Task} (valid : Valid r t) (g : Rules) where
   unfolding loss_step attack_of attack_leads
   step_elim p q n = by_rank (rank g t N p) refl n
     where
-      by_attack : (j : ℕ) → rank g t N p ≡ some (suc j) → (o : Option Attack) → chosen g t j p ≡ o
+      by_attack : (j : ℕ) → rank g t N p ≡ Some (suc j) → (o : Option Attack) → chosen g t j p ≡ o
           → q ∈ attack_leads t p o
           → Stepped p q
-      by_attack j e none f m = absurd (Memᴰ.not-nil m)
-      by_attack j e (some a) f m =
+      by_attack j e None f m = absurd (Memᴰ.not-nil m)
+      by_attack j e (Some a) f m =
           let (i, u, v) = Memᴰ.of_map (after t p a) (replies t p a) m in
           record {
             rounds-left = j;
@@ -124,11 +124,11 @@ module _ {r : ℕ} {t : Task} (valid : Valid r t) (g : Rules) where
           }
 
       by_rank : (o : Option ℕ) → rank g t N p ≡ o → q ∈ attack_leads t p (attack_of g t p o) → Stepped p q
-      by_rank none e m = absurd (Memᴰ.not-nil m)
-      by_rank (some zero) e m = absurd (Memᴰ.not-nil m)
-      by_rank (some (suc j)) e m = by_attack j e (chosen g t j p) refl m
+      by_rank None e m = absurd (Memᴰ.not-nil m)
+      by_rank (Some zero) e m = absurd (Memᴰ.not-nil m)
+      by_rank (Some (suc j)) e m = by_attack j e (chosen g t j p) refl m
 
-  step_intro : (p : Position) (j : ℕ) (a : Attack) (k : ℕ) → rank g t N p ≡ some (suc j) → FirstAttack g t p j a
+  step_intro : (p : Position) (j : ℕ) (a : Attack) (k : ℕ) → rank g t N p ≡ Some (suc j) → FirstAttack g t p j a
       → k ∈ replies t p a
       → after t p a k ∈ loss_step g t N p
   unfolding loss_step attack_of attack_leads
@@ -171,10 +171,10 @@ module _ {r : ℕ} {t : Task} (valid : Valid r t) (g : Rules) where
 
   -- a position reached that is lost, with its rank
   abbrev pub LostIn : Position → ℕ → Type 0
-  LostIn p k = (p ∈ reached g t) × (rank g t N p ≡ some k)
+  LostIn p k = (p ∈ reached g t) × (rank g t N p ≡ Some k)
 
   -- every listed position of a lost start is lost
-  pub listed-lost : (n : ℕ) → rounds g t t.start ≡ some n → (p : Position) → p ∈ listed → (k : ℕ) × LostIn p k
+  pub listed-lost : (n : ℕ) → rounds g t t.start ≡ Some n → (p : Position) → p ∈ listed → (k : ℕ) × LostIn p k
   listed-lost n e p m =
       let l = (led_exactly p).0 m in
       let (k, h) = led_ranked (rounds-least n e).0 l in

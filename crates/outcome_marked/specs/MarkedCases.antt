@@ -1,8 +1,7 @@
 -- 01, "Sample pairs": the marked cases, each a call of the comparer and what it must give; and further cases of the same form
 -- for the mistakes that no marked case shows.
-use Rattle.std.specs.Prelude.{ℕ, Bool, true, ◌&&◌, replicate, eqb}
+use Rattle.std.specs.Prelude.{ℕ, Bool, true, ◌&&◌, replicate, eqb, Option, None, Some}
 use mathlib.Core.List.{List, [], ◌∷◌, ◌++◌, flat_map}
-use mathlib.Core.Option.{Option, none, some}
 use Rattle.outcome.specs.Verdicts.{contest_of, Values, values_of}
 use Rattle.fra.specs.declared.Game.{Game}
 use Rattle.fra.specs.declared.Game.TheVariants.{BothAttack, LeftAttacks}
@@ -239,15 +238,15 @@ end = 0x0f ∷ []
 -- a call with room to spare: eight entries of 13 bytes and five spare bytes, 100 bytes for the certificate
 abbrev pub call : List ℕ → Values → Case
 call file expected =
-    record { game = BothAttack; file = file; table = 109; buffer = 100; expected = expected; left_behind = none }
+    record { game = BothAttack; file = file; table = 109; buffer = 100; expected = expected; left_behind = None }
 
 abbrev pub call_one_way : List ℕ → Values → Case
 call_one_way file expected =
-    record { game = LeftAttacks; file = file; table = 109; buffer = 100; expected = expected; left_behind = none }
+    record { game = LeftAttacks; file = file; table = 109; buffer = 100; expected = expected; left_behind = None }
 
 abbrev pub lending : ℕ → ℕ → List ℕ → Values → Case
 lending table buffer file expected =
-    record { game = BothAttack; file = file; table = table; buffer = buffer; expected = expected; left_behind = none }
+    record { game = BothAttack; file = file; table = table; buffer = buffer; expected = expected; left_behind = None }
 
 abbrev pub leaving : List ℕ → List ℕ → List ℕ → Values → Case
 leaving table certificate file expected =
@@ -257,7 +256,7 @@ leaving table certificate file expected =
       table = 109;
       buffer = 100;
       expected = expected;
-      left_behind = some (record { table = table; certificate = certificate });
+      left_behind = Some (record { table = table; certificate = certificate });
     }
 
 -- case 2: 17, the start, side 1, edge 0, case 7, 1 round; and then the buffer as it was
@@ -430,8 +429,8 @@ same_values v w =
     && eqb v.length w.length
 
 unfoldable pub same_buffers : Compare.Outcome → Option Buffers → Bool
-same_buffers o none = true
-same_buffers o (some b) = Lists.equal o.table b.table && Lists.equal o.certificate b.certificate
+same_buffers o None = true
+same_buffers o (Some b) = Lists.equal o.table b.table && Lists.equal o.certificate b.certificate
 
 -- the outcome of a case; the lent buffers hold other bytes at entry
 unfoldable pub outcome : Case → Compare.Outcome
@@ -446,8 +445,8 @@ unfolding flat_map Lists.any Lists.all Lists.keep Lists.first Lists.count Lists.
     TaskFile.after_state TaskFile.state_at TaskFile.edge_of_body TaskFile.edge_exists TaskFile.keeps_rule TaskFile.rises
     TaskFile.edge_refusal TaskFile.with_edge TaskFile.edge_at TaskFile.rising TaskFile.pair_refusal TaskFile.with_pair
     TaskFile.pair_at TaskFile.history_refusal TaskFile.with_history TaskFile.history_at TaskFile.end_at TaskFile.header
-    TaskFile.state TaskFile.edge TaskFile.pair TaskFile.history TaskFile.end TaskFile.record_kind
-    TaskFile.body_length TaskFile.step TaskFile.at_end TaskFile.read_rest TaskFile.read_task Bytes.word Bytes.word_at Bytes.cleared
+    TaskFile.state TaskFile.edge TaskFile.pair TaskFile.history TaskFile.end
+    TaskFile.body_of TaskFile.step TaskFile.at_end TaskFile.read_rest TaskFile.read_task Bytes.word Bytes.word_at Bytes.cleared
     Bytes.then_zeros Bytes.then_rest Certificate.entry Certificate.entries Certificate.kept_record Certificate.kept_positions
     Certificate.loss_record Certificate.wins Certificate.chosen Certificate.attack_of Certificate.attack_leads
     Certificate.loss_step Certificate.loss_with Certificate.loss_of Certificate.losses Certificate.certificate_by Compare.capacity

@@ -5,13 +5,14 @@ use mathlib.Core.Logic.{◌↔◌}
 use mathlib.Core.Bool.{cond}
 use native.Mathlib.Omega.{arith}
 use lib.Dec.{eqb}
+use Rattle.std.specs.Prelude.{Result, Ok, Err}
+use Rattle.task.specs.Refusals.{number_of}
+use Rattle.task.specs.declared.Refusal.{Refusal}
 use Rattle.outcome.specs.Verdicts.{kind_of, values_of, checked_values_of}
 use Rattle.outcome.specs.declared.Verdict.{Verdict}
 use Rattle.outcome.specs.declared.Verdict.TheVariants.{Equal, Differ, Follows, FallsShort}
 use Rattle.outcome.specs.declared.Comparison.{Comparison}
-use Rattle.outcome.specs.declared.Comparison.TheVariants.{Decided, Refused}
-use Rattle.outcome.specs.declared.Check.{Check}
-use Rattle.outcome.specs.declared.Check.TheVariants.{Accepted, Refused as Rejected}
+use Rattle.outcome.specs.declared.Acceptance.{Acceptance}
 use Rattle.fra_laws.proofs.Tests.{clash}
 
 -- the verdict with a kind
@@ -27,10 +28,12 @@ kind_fixes v w e = sym (back v) ∙ ap with_kind e ∙ back w
     back Follows = refl
     back FallsShort = refl
 
-pub refusal-number : (a : Comparison) (n : ℕ) → 0 < n → ((values_of a).refusal ≡ n) ↔ (a ≡ Refused n)
-refusal-number (Decided v p k l) n least = (λ e. absurd (omega arith), λ e. clash (cc))
-refusal-number (Refused m) n least = (λ e. ap (λ (k : ℕ). Refused k) e, λ e. ap (λ (a : Comparison). (values_of a).refusal) e)
+pub refusal-number : (a : Result Comparison Refusal) (n : ℕ) → 0 < n
+    → ((values_of a).refusal ≡ n) ↔ ((e : Refusal) × (number_of e ≡ n) × (a ≡ Err e))
+refusal-number (Ok c) n least = (λ h. absurd (omega arith), λ (e, d, f). clash (cc))
+refusal-number (Err e) n least = (λ h. (e, h, refl), λ (f, d, g). let same : e ≡ f = cc in ap number_of same ∙ d)
 
-pub rejection_number : (a : Check) (n : ℕ) → 0 < n → ((checked_values_of a).refusal ≡ n) ↔ (a ≡ Rejected n)
-rejection_number (Accepted v k) n least = (λ e. absurd (omega arith), λ e. clash (cc))
-rejection_number (Rejected m) n least = (λ e. ap (λ (k : ℕ). Rejected k) e, λ e. ap (λ (a : Check). (checked_values_of a).refusal) e)
+pub rejection_number : (a : Result Acceptance Refusal) (n : ℕ) → 0 < n
+    → ((checked_values_of a).refusal ≡ n) ↔ ((e : Refusal) × (number_of e ≡ n) × (a ≡ Err e))
+rejection_number (Ok c) n least = (λ h. absurd (omega arith), λ (e, d, f). clash (cc))
+rejection_number (Err e) n least = (λ h. (e, h, refl), λ (f, d, g). let same : e ≡ f = cc in ap number_of same ∙ d)

@@ -1,7 +1,8 @@
 -- The promises on both comparisons of one task are kept. Assumes nothing.
 use Prim.Native.Nat.{ℕ}
+use Rattle.std.specs.Prelude.{Result}
 use mathlib.Core.Path.{◌≡◌, refl, sym, ap, subst}
-use mathlib.Core.Logic.{◌⊎◌, inl, inr, ⊎_elim}
+use mathlib.Core.Logic.{inl, inr, ⊎_elim}
 use mathlib.Core.Bool.{true, not}
 use mathlib.Core.List.{List}
 use native.Mathlib.Omega.{arith}
@@ -27,7 +28,8 @@ use Rattle.task_laws.proofs.ExchangedFile.{exchanged_is_read}
 use Rattle.outcome.specs.Verdicts.{Contest, equality, one_way, checked_values_of}
 use Rattle.outcome.specs.Check.{check_task}
 use Rattle.outcome.specs.Refusals.{TableTooSmall, ComparerRefuses}
-use Rattle.outcome.specs.declared.Check.{Check}
+use Rattle.task.specs.declared.Refusal.{Refusal}
+use Rattle.outcome.specs.declared.Acceptance.{Acceptance}
 use Rattle.outcome.specs.declared.Verdict.TheVariants.{Follows}
 use Rattle.promises.specs.Promises.{BothComparisons, returned, Gives}
 use Rattle.promises.proofs.Support.{checked_read}
@@ -135,5 +137,5 @@ both_comparisons =
           );
     }
   where
-    refused : Check → ℕ
+    refused : Result Acceptance Refusal → ℕ
     refused a = (checked_values_of a).refusal

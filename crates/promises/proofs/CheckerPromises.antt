@@ -1,29 +1,29 @@
 -- The promises on a check: which certificates are accepted and what that shows, and which are refused. Assumes nothing.
 use Prim.Native.Nat.{ℕ, ◌<◌}
+use Rattle.std.specs.Prelude.{Result, Ok, Err}
+use Rattle.fra.specs.declared.Task.{Task}
 use mathlib.Core.Path.{◌≡◌, refl, sym, ◌∙◌, ap, subst}
 use mathlib.Core.Logic.{◌⊎◌, inl, inr, ⊎_elim, ◌↔◌, ◌≢◌}
 use mathlib.Core.Bool.{true}
 use mathlib.Core.List.{List}
 use native.Mathlib.Omega.{arith}
 use Rattle.fra.specs.Game.{lost_within, NeverLost}
-use Rattle.fra.specs.Reach.{rounds}
 use Rattle.task.specs.TaskFile.{read_task, task_of, IsRead, max_registers}
-use Rattle.task.specs.Records.{TurnedBack}
-use Rattle.task.specs.declared.Answer.{Answer}
-use Rattle.task.specs.declared.Answer.TheVariants.{Read, Refused as Unread}
+use Rattle.task.specs.Refusals.{number_of}
+use Rattle.task.specs.declared.Refusal.{Refusal}
 use Rattle.outcome.specs.Bytes.{Byte, values}
 use Rattle.outcome.specs.Verdicts.{Contest, Values, kind_of, checked_values_of}
 use Rattle.outcome.specs.Check.{check_task, check}
 use Rattle.outcome.specs.Conditions.{Accepts, accepts-kept, accepts-lost}
 use Rattle.outcome.specs.Refusals.{CheckerRefuses}
 use Rattle.outcome.specs.declared.Verdict.{Verdict}
-use Rattle.outcome.specs.declared.Check.{Check}
-use Rattle.outcome.specs.declared.Check.TheVariants.{Accepted, Refused as Rejected}
+use Rattle.outcome.specs.declared.Acceptance.{Acceptance}
 use Rattle.numbers.specs.Numbers.{Setting, Opening, Enough}
 use Rattle.fra_laws.proofs.Tests.{clash}
 use Rattle.task_laws.proofs.ReadValid.{read-valid}
-use Rattle.task_laws.proofs.ReadAnswers.{turned_back_number, answer-read, read_answer}
-use Rattle.task_laws.proofs.FileRefusals.{refused-exactly as unread-exactly}
+use Rattle.task_laws.proofs.ReadAnswers.{answer-read, read_answer}
+use Rattle.task_laws.proofs.FileRefusals.{turned_back_refused, refused-exactly as unread-exactly}
+use Rattle.task_laws.proofs.RefusalNumbers.{number_of_injective, number_of-least}
 use Rattle.outcome_laws.proofs.Encoding.{values-bytes}
 use Rattle.outcome_laws.proofs.Check.{check_accepted, check-refused}
 use Rattle.outcome_laws.proofs.Conditions.{kept-start_never_lost, listed-start-lost}
@@ -46,78 +46,97 @@ module _ (c : Contest) (kinds_differ : kind_of c.kept ≢ kind_of c.lost) where
     abbrev check_numbers : Values
     check_numbers = returned_by_check c file (values certificate)
 
-    rejects : (n : ℕ) → (check c file (values certificate) ≡ Rejected n) ↔ CheckerRefuses c file (values certificate) n
+    rejects : (e : Refusal)
+        → (check c file (values certificate) ≡ Err e) ↔ CheckerRefuses c file (values certificate) (number_of e)
     unfolding CheckerRefuses
-    rejects n = by (read_task file).answer refl
+    rejects e = by (read_task file) refl
       where
-        by : (a : Answer) → (read_task file).answer ≡ a
-            → (check c file (values certificate) ≡ Rejected n) ↔ CheckerRefuses c file (values certificate) n
-        by Read e =
-            let same = checked_read c file (values certificate) e in
-            let each =
-            check-refused max_registers c (task_of file) kinds_differ (values certificate) (values-bytes certificate) n in (
-              λ h. inr (answer-read file e, each.0 (sym same ∙ h)),
-              ⊎_elim (λ back. absurd (not_read file n back (answer-read file e))) (λ (f, h). same ∙ each.1 h),
+        by : (r : Result Task Refusal) → read_task file ≡ r
+            → (check c file (values certificate) ≡ Err e) ↔ CheckerRefuses c file (values certificate) (number_of e)
+        by (Ok t) f =
+            let read = answer-read file f in
+            let same = checked_read c file (values certificate) (read_answer file read) in
+            let each = check-refused max_registers c (task_of file) kinds_differ (values certificate) (values-bytes certificate) e in (
+              λ h.
+                  inr (
+                    read,
+                    ⊎_elim (λ (d, m). inl (ap number_of d, m)) (λ (d, m). inr (ap number_of d, m)) (each.0 (sym same ∙ h)),
+                  ),
+              ⊎_elim (λ back. absurd (not_read file (number_of e) back read))
+                  (λ (g, h).
+                  same
+                  ∙ each.1
+                  (⊎_elim (λ (d, m). inl (number_of_injective e Refusal.Malformed d, m))
+                  (λ (d, m). inr (number_of_injective e Refusal.NotAccepted d, m))
+                  h)),
             )
-        by (Unread m) e =
-            let same = checked_unread c file (values certificate) m e in
-            let back = (unread-exactly file m).0 e in (
-              λ h. let d : m ≡ n = cc in inl (subst (λ (k : ℕ). TurnedBack k file) d back),
-              ⊎_elim (λ b. let d = (unread-exactly file n).1 b in let f : m ≡ n = cc in same ∙ ap (λ (k : ℕ). Rejected k) f)
-                  (λ (f, h). absurd (not_read file m back f)),
+        by (Err m) f =
+            let same = checked_unread c file (values certificate) m f in (
+              λ h. let d : m ≡ e = cc in inl ((unread-exactly file e).0 (cc)),
+              ⊎_elim (λ back. let d = (unread-exactly file e).1 back in cc)
+                  (λ (g, h). absurd (not_read file (number_of m) ((unread-exactly file m).0 f) g)),
             )
 
-    rejects_number : (n : ℕ) → CheckerRefuses c file (values certificate) n → 0 < n
+    -- what is rejected with a number is rejected with the refusal of that number
+    rejection_named : (n : ℕ) → CheckerRefuses c file (values certificate) n → (e : Refusal) × (number_of e ≡ n)
     unfolding CheckerRefuses
-    rejects_number n (inl back) = turned_back_number n file back
-    rejects_number n (inr (e, inl (d, h))) = omega arith
-    rejects_number n (inr (e, inr (d, h))) = omega arith
+    rejection_named n (inl back) = let (e, d, f) = turned_back_refused file n back in (e, d)
+    rejection_named n (inr (read, inl (d, h))) = (Refusal.Malformed, sym d)
+    rejection_named n (inr (read, inr (d, h))) = (Refusal.NotAccepted, sym d)
 
     pub rejects_exactly : (n : ℕ) → 0 < n → (check_numbers.refusal ≡ n) ↔ CheckerRefuses c file (values certificate) n
     rejects_exactly n least = (
-      λ h. (rejects n).0 ((rejection_number (check c file (values certificate)) n least).0 h),
-      λ h. (rejection_number (check c file (values certificate)) n least).1 ((rejects n).1 h),
+      λ h.
+          let (e, d, f) = (rejection_number (check c file (values certificate)) n least).0 h in
+          subst (CheckerRefuses c file (values certificate)) d ((rejects e).0 f),
+      λ h.
+          let (e, d) = rejection_named n h in
+          let named = subst (CheckerRefuses c file (values certificate)) (sym d) h in
+          (rejection_number (check c file (values certificate)) n least).1 (e, d, (rejects e).1 named),
     )
 
-    accepts : (v : Verdict) (n : ℕ) → (check c file (values certificate) ≡ Accepted v n)
+    accepts : (v : Verdict) (n : ℕ) → (check c file (values certificate) ≡ Ok (record { verdict = v; rounds = n }))
         ↔ (IsRead file × Accepts max_registers c (task_of file) (values certificate) v n)
-    accepts v n = by (read_task file).answer refl
+    accepts v n = by (read_task file) refl
       where
-        each : (check_task max_registers c (task_of file) (values certificate) ≡ Accepted v n)
+        each : (check_task max_registers c (task_of file) (values certificate) ≡ Ok (record { verdict = v; rounds = n }))
             ↔ Accepts max_registers c (task_of file) (values certificate) v n
         each = check_accepted max_registers c (task_of file) kinds_differ (values certificate) (values-bytes certificate) v n
 
-        by : (a : Answer) → (read_task file).answer ≡ a
-            → (check c file (values certificate) ≡ Accepted v n)
+        by : (r : Result Task Refusal) → read_task file ≡ r
+            → (check c file (values certificate) ≡ Ok (record { verdict = v; rounds = n }))
             ↔ (IsRead file × Accepts max_registers c (task_of file) (values certificate) v n)
-        by Read e =
-            let same = checked_read c file (values certificate) e in
-            (λ h. (answer-read file e, each.0 (sym same ∙ h)), λ (f, a). same ∙ each.1 a)
-        by (Unread m) e =
-            let same = checked_unread c file (values certificate) m e in (
+        by (Ok t) f =
+            let read = answer-read file f in
+            let same = checked_read c file (values certificate) (read_answer file read) in
+            (λ h. (read, each.0 (sym same ∙ h)), λ (g, a). same ∙ each.1 a)
+        by (Err m) f =
+            let same = checked_unread c file (values certificate) m f in (
               λ h. clash (cc),
-              λ (f, a). absurd (not_read file m ((unread-exactly file m).0 e) f),
+              λ (g, a). absurd (not_read file (number_of m) ((unread-exactly file m).0 f) g),
             )
 
     -- an answer and its numbers
     accepted_numbers : (v : Verdict) (n : ℕ)
-        → (Gives v check_numbers × (check_numbers.rounds ≡ n)) ↔ (check c file (values certificate) ≡ Accepted v n)
+        → (Gives v check_numbers × (check_numbers.rounds ≡ n))
+        ↔ (check c file (values certificate) ≡ Ok (record { verdict = v; rounds = n }))
     accepted_numbers v n = by (check c file (values certificate)) refl
       where
-        by : (a : Check) → check c file (values certificate) ≡ a
-            → (Gives v check_numbers × (check_numbers.rounds ≡ n)) ↔ (check c file (values certificate) ≡ Accepted v n)
-        by (Accepted w m) e = (
+        by : (a : Result Acceptance Refusal) → check c file (values certificate) ≡ a
+            → (Gives v check_numbers × (check_numbers.rounds ≡ n))
+            ↔ (check c file (values certificate) ≡ Ok (record { verdict = v; rounds = n }))
+        by (Ok a) e = (
           λ ((z, k), f).
-              let d = kind_fixes w v (sym (ap (λ (a : Check). (checked_values_of a).verdict) e) ∙ k) in
-              let g = sym (ap (λ (a : Check). (checked_values_of a).rounds) e) ∙ f in
-              e ∙ ap (λ (x : Verdict). Accepted x m) d ∙ ap (λ (x : ℕ). Accepted v x) g,
+              let d = kind_fixes a.verdict v (sym (ap (λ (x : Result Acceptance Refusal). (checked_values_of x).verdict) e) ∙ k) in
+              let g = sym (ap (λ (x : Result Acceptance Refusal). (checked_values_of x).rounds) e) ∙ f in
+              e ∙ ap {B = Result Acceptance Refusal} (λ (x : Verdict). Ok (record { verdict = x; rounds = a.rounds })) d
+              ∙ ap {B = Result Acceptance Refusal} (λ (x : ℕ). Ok (record { verdict = v; rounds = x })) g,
           λ h. ((rw h refl, rw h refl), rw h refl),
         )
-        by (Rejected m) e = (
+        by (Err m) e = (
           λ ((z, k), f).
-              let least = rejects_number m ((rejects m).0 e) in
-              let d : m ≡ 0 = sym (ap (λ (a : Check). (checked_values_of a).refusal) e) ∙ z in
-              absurd (omega arith),
+              let d : number_of m ≡ 0 = sym (ap (λ (x : Result Acceptance Refusal). (checked_values_of x).refusal) e) ∙ z in
+              absurd (omega (arith, number_of-least m)),
           λ h. clash (cc),
         )
 
@@ -129,14 +148,18 @@ module _ (c : Contest) (kinds_differ : kind_of c.kept ≢ kind_of c.lost) where
     pub check-answers : Gives c.kept check_numbers ⊎ Gives c.lost check_numbers ⊎ (0 < check_numbers.refusal)
     check-answers = by (check c file (values certificate)) refl
       where
-        by : (a : Check) → check c file (values certificate) ≡ a
+        accepted_as : (a : Acceptance) {v : Verdict} → a.verdict ≡ v
+            → ◌≡◌ {A = Result Acceptance Refusal} (Ok a) (Ok (record { verdict = v; rounds = a.rounds }))
+        accepted_as a f = ap {B = Result Acceptance Refusal} (λ (x : Verdict). Ok (record { verdict = x; rounds = a.rounds })) f
+
+        by : (a : Result Acceptance Refusal) → check c file (values certificate) ≡ a
             → Gives c.kept check_numbers ⊎ Gives c.lost check_numbers ⊎ (0 < check_numbers.refusal)
-        by (Accepted v n) e =
+        by (Ok a) e =
             ⊎_elim
-            (λ (f, never). inl ((accepted_numbers c.kept n).1 (e ∙ ap (λ (x : Verdict). Accepted x n) f)).0)
-            (λ (f, lost). inr (inl ((accepted_numbers c.lost n).1 (e ∙ ap (λ (x : Verdict). Accepted x n) f)).0))
-            (shows file (values certificate) v n ((accepts v n).0 e).1)
-        by (Rejected n) e = inr (inr (rw e (rejects_number n ((rejects n).0 e))))
+            (λ (f, never). inl ((accepted_numbers c.kept a.rounds).1 (e ∙ accepted_as a f)).0)
+            (λ (f, lost). inr (inl ((accepted_numbers c.lost a.rounds).1 (e ∙ accepted_as a f)).0))
+            (shows file (values certificate) a.verdict a.rounds ((accepts a.verdict a.rounds).0 e).1)
+        by (Err m) e = inr (inr (rw e (number_of-least m)))
 
     -- what an accepted certificate shows of actual numbers
     pub shows_of-numbers : (s : Setting) → Opening max_registers (task_of file) s

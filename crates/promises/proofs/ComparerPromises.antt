@@ -4,7 +4,7 @@ use Prim.Native.Nat.{ℕ, zero, suc, ◌*◌, ◌-◌, ◌≤◌, ◌<◌}
 use mathlib.Core.Path.{◌≡◌, refl, sym, ◌∙◌, ap, subst}
 use mathlib.Core.Logic.{◌⊎◌, inl, inr, ⊎_elim, ◌↔◌, ◌≢◌}
 use mathlib.Core.List.{List}
-use mathlib.Core.Option.{none, some}
+use Rattle.std.specs.Prelude.{None, Some, Result, Ok, Err}
 use native.Mathlib.Omega.{arith}
 use lib.ListN.{length, take, drop}
 use lib.Seq.{take_at}
@@ -14,8 +14,8 @@ use Rattle.fra.specs.Valid.{Valid}
 use Rattle.fra.specs.declared.Task.{Task}
 use Rattle.task.specs.TaskFile.{read_task, task_of, IsRead, max_registers}
 use Rattle.task.specs.Records.{TurnedBack}
-use Rattle.task.specs.declared.Answer.{Answer}
-use Rattle.task.specs.declared.Answer.TheVariants.{Read, Refused as Unread}
+use Rattle.task.specs.Refusals.{number_of}
+use Rattle.task.specs.declared.Refusal.{Refusal}
 use Rattle.outcome.specs.Bytes.{cleared, then_zeros, then_rest}
 use Rattle.outcome.specs.Verdicts.{Contest, Values, kind_of, values_of, checked_values_of, number_and_zeros}
 use Rattle.outcome.specs.Certificate.{entries, certificate_by}
@@ -25,15 +25,14 @@ use Rattle.outcome.specs.Listed.{Counted, TableHolds, KeptWritten, LossesWritten
 use Rattle.outcome.specs.Refusals.{ComparerRefuses}
 use Rattle.outcome.specs.declared.Verdict.{Verdict}
 use Rattle.outcome.specs.declared.Comparison.{Comparison}
-use Rattle.outcome.specs.declared.Comparison.TheVariants.{Decided, Refused}
-use Rattle.outcome.specs.declared.Check.TheVariants.{Accepted}
 use Rattle.numbers.specs.Numbers.{Setting, Opening, Enough, LeastEnough}
 use Rattle.fra_laws.proofs.Tests.{not_both}
 use Rattle.fra_laws.proofs.Ranks.{same_rank}
 use Rattle.fra_laws.proofs.Reached.{reached-exactly, reached-unique}
 use Rattle.task_laws.proofs.ReadValid.{read-valid}
-use Rattle.task_laws.proofs.ReadAnswers.{turned_back_number, answer-read, read_answer}
-use Rattle.task_laws.proofs.FileRefusals.{refused-exactly as unread-exactly}
+use Rattle.task_laws.proofs.ReadAnswers.{answer-read, read_answer}
+use Rattle.task_laws.proofs.FileRefusals.{turned_back_refused, refused-exactly as unread-exactly}
+use Rattle.task_laws.proofs.RefusalNumbers.{number_of_injective, number_of-least}
 use Rattle.outcome_laws.proofs.WrittenLists.{rounds_never, rounds-least}
 use Rattle.outcome_laws.proofs.Compare.{Says, refused-exactly, late_outcome}
 use Rattle.outcome_laws.proofs.LeftBehind.{table-left, kept-left, losses-left}
@@ -50,8 +49,9 @@ record Decision (c : Contest) (file table buffer : List ℕ) : Type 0 where
   pub positions : ℕ
   pub rounds : ℕ
   pub size : ℕ
-  pub numbers : returned c file table buffer ≡ values_of (Decided verdict positions rounds size)
-  pub read : (read_task file).answer ≡ Read
+  pub numbers : returned c file table buffer
+      ≡ values_of (Ok (record { verdict = verdict; positions = positions; rounds = rounds; length = size }))
+  pub read : read_task file ≡ Ok (task_of file)
   pub says : Says c (task_of file) table buffer verdict positions rounds size
 
 module _ (c : Contest) (kinds_differ : kind_of c.kept ≢ kind_of c.lost) where
@@ -62,73 +62,92 @@ module _ (c : Contest) (kinds_differ : kind_of c.kept ≢ kind_of c.lost) where
     abbrev r : Values
     r = returned c file table buffer
 
-    refuses : (n : ℕ) → (outcome.answer ≡ Refused n) ↔ ComparerRefuses c file table buffer n
+    refuses : (e : Refusal) → (outcome.answer ≡ Err e) ↔ ComparerRefuses c file table buffer (number_of e)
     unfolding ComparerRefuses
-    refuses n = by (read_task file).answer refl
+    refuses e = by (read_task file) refl
       where
-        by : (a : Answer) → (read_task file).answer ≡ a → (outcome.answer ≡ Refused n) ↔ ComparerRefuses c file table buffer n
-        by Read e =
-            let same = ap (λ (o : Outcome). o.answer) (compared-read c file table buffer e) in
-            let late = refused-exactly c (task_of file) table buffer (read-valid file e) refl refl n in (
-              λ h. inr (answer-read file e, late.0 (sym same ∙ h)),
-              ⊎_elim (λ back. absurd (not_read file n back (answer-read file e))) (λ (f, h). same ∙ late.1 h),
+        by : (r : Result Task Refusal) → read_task file ≡ r
+            → (outcome.answer ≡ Err e) ↔ ComparerRefuses c file table buffer (number_of e)
+        by (Ok t) f =
+            let read = answer-read file f in
+            let same = ap (λ (o : Outcome). o.answer) (compared-read c file table buffer (read_answer file read)) in
+            let late = refused-exactly c (task_of file) table buffer (read-valid file (read_answer file read)) refl refl e in (
+              λ h.
+                  inr (
+                    read,
+                    ⊎_elim (λ (d, m). inl (ap number_of d, m)) (λ (d, fits, long). inr (ap number_of d, fits, long)) (late.0 (sym same ∙ h)),
+                  ),
+              ⊎_elim (λ back. absurd (not_read file (number_of e) back read))
+                  (λ (g, h).
+                  same
+                  ∙ late.1
+                  (⊎_elim (λ (d, m). inl (number_of_injective e Refusal.TableTooSmall d, m))
+                  (λ (d, fits, long). inr (number_of_injective e Refusal.BufferTooSmall d, fits, long))
+                  h)),
             )
-        by (Unread m) e =
-            let same = ap (λ (o : Outcome). o.answer) (compared_unread c file table buffer m e) in
-            let back = (unread-exactly file m).0 e in (
-              λ h. let d : m ≡ n = cc in inl (subst (λ (k : ℕ). TurnedBack k file) d back),
-              ⊎_elim (λ b. let d = (unread-exactly file n).1 b in let f : m ≡ n = cc in same ∙ ap (λ (k : ℕ). Refused k) f)
-                  (λ (f, h). absurd (not_read file m back f)),
+        by (Err m) f =
+            let same = ap (λ (o : Outcome). o.answer) (compared_unread c file table buffer m f) in (
+              λ h. let d : m ≡ e = cc in inl ((unread-exactly file e).0 (cc)),
+              ⊎_elim (λ back. let d = (unread-exactly file e).1 back in cc)
+                  (λ (g, h). absurd (not_read file (number_of m) ((unread-exactly file m).0 f) g)),
             )
 
-    refuses-number : (n : ℕ) → ComparerRefuses c file table buffer n → 0 < n
+    -- what is refused with a number is refused with the refusal of that number
+    refusal_named : (n : ℕ) → ComparerRefuses c file table buffer n → (e : Refusal) × (number_of e ≡ n)
     unfolding ComparerRefuses
-    refuses-number n (inl back) = turned_back_number n file back
-    refuses-number n (inr (e, inl (d, h))) = omega arith
-    refuses-number n (inr (e, inr (d, fits, long))) = omega arith
+    refusal_named n (inl back) = let (e, d, f) = turned_back_refused file n back in (e, d)
+    refusal_named n (inr (read, inl (d, h))) = (Refusal.TableTooSmall, sym d)
+    refusal_named n (inr (read, inr (d, fits, long))) = (Refusal.BufferTooSmall, sym d)
 
     pub refuses-exactly : (n : ℕ) → 0 < n → (r.refusal ≡ n) ↔ ComparerRefuses c file table buffer n
     refuses-exactly n least = (
-      λ h. (refuses n).0 ((refusal-number outcome.answer n least).0 h),
-      λ h. (refusal-number outcome.answer n least).1 ((refuses n).1 h),
+      λ h.
+          let (e, d, f) = (refusal-number outcome.answer n least).0 h in
+          subst (ComparerRefuses c file table buffer) d ((refuses e).0 f),
+      λ h.
+          let (e, d) = refusal_named n h in
+          let named = subst (ComparerRefuses c file table buffer) (sym d) h in
+          (refusal-number outcome.answer n least).1 (e, d, (refuses e).1 named),
     )
 
     pub refusal_returns : (n : ℕ) → 0 < n → r.refusal ≡ n → r ≡ number_and_zeros n
-    refusal_returns n least h = ap values_of ((refusal-number outcome.answer n least).0 h)
+    refusal_returns n least h =
+        let (e, d, f) = (refusal-number outcome.answer n least).0 h in
+        ap values_of f ∙ ap number_and_zeros d
 
     pub early_leaves : (n : ℕ) → TurnedBack n file → (outcome.table ≡ table) × (outcome.certificate ≡ buffer)
     early_leaves n back =
-        let same = compared_unread c file table buffer n ((unread-exactly file n).1 back) in
+        let (e, d, f) = turned_back_refused file n back in
+        let same = compared_unread c file table buffer e f in
         (ap (λ (o : Outcome). o.table) same, ap (λ (o : Outcome). o.certificate) same)
 
     pub late_leaves : IsRead file → 0 < r.refusal → (outcome.table ≡ cleared table) × (outcome.certificate ≡ buffer)
     late_leaves h least =
         let read = compared-read c file table buffer (read_answer file h) in
-        let refused = (refusal-number outcome.answer r.refusal least).0 refl in
+        let (e, d, refused) = (refusal-number outcome.answer r.refusal least).0 refl in
         let same =
-        read ∙ late_outcome c (task_of file) table buffer r.refusal (sym (ap (λ (o : Outcome). o.answer) read) ∙ refused) in
+        read ∙ late_outcome c (task_of file) table buffer e (sym (ap (λ (o : Outcome). o.answer) read) ∙ refused) in
         (ap (λ (o : Outcome). o.table) same, ap (λ (o : Outcome). o.certificate) same)
 
     -- a call without a refusal has a verdict, given on a file that is read
     decides : r.refusal ≡ 0 → Decision c file table buffer
     decides h = by outcome.answer refl
       where
-        by : (a : Comparison) → outcome.answer ≡ a → Decision c file table buffer
-        by (Decided v positions n size) e =
-            let (read, says) = decided-read c file table buffer v positions n size e in
+        by : (a : Result Comparison Refusal) → outcome.answer ≡ a → Decision c file table buffer
+        by (Ok k) e =
+            let (read, says) = decided-read c file table buffer k.verdict k.positions k.rounds k.length e in
             record {
-              verdict = v;
-              positions = positions;
-              rounds = n;
-              size = size;
+              verdict = k.verdict;
+              positions = k.positions;
+              rounds = k.rounds;
+              size = k.length;
               numbers = ap values_of e;
               read = read;
               says = says;
             }
-        by (Refused n) e =
-            let least = refuses-number n ((refuses n).0 e) in
-            let d : n ≡ 0 = sym (ap (λ (a : Comparison). (values_of a).refusal) e) ∙ h in
-            absurd (omega arith)
+        by (Err m) e =
+            let d : number_of m ≡ 0 = sym (ap (λ (a : Result Comparison Refusal). (values_of a).refusal) e) ∙ h in
+            absurd (omega (arith, number_of-least m))
 
     -- a verdict is given on a file that is read
     pub verdict-read : r.refusal ≡ 0 → IsRead file
@@ -189,13 +208,13 @@ module _ (c : Contest) (kinds_differ : kind_of c.kept ≢ kind_of c.lost) where
       verdict_is v e = kind_fixes d.verdict v (sym (ap (λ (w : Values). w.verdict) d.numbers) ∙ e)
 
       -- the verdict, and what it says of the start
-      kept-start : r.verdict ≡ kind_of c.kept → (rounds c.rules t t.start ≡ none) × (d.rounds ≡ 0)
+      kept-start : r.verdict ≡ kind_of c.kept → (rounds c.rules t t.start ≡ None) × (d.rounds ≡ 0)
       kept-start e =
           ⊎_elim (λ (f, never, z). (never, z))
           (λ (f, lost). absurd (kinds_differ (ap kind_of (sym (verdict_is c.kept e) ∙ f))))
           d.says.start
 
-      lost-start : r.verdict ≡ kind_of c.lost → rounds c.rules t t.start ≡ some d.rounds
+      lost-start : r.verdict ≡ kind_of c.lost → rounds c.rules t t.start ≡ Some d.rounds
       lost-start e =
           ⊎_elim (λ (f, never, z). absurd (kinds_differ (ap kind_of (sym f ∙ verdict_is c.lost e))))
           (λ (f, lost). lost)
@@ -241,7 +260,7 @@ module _ (c : Contest) (kinds_differ : kind_of c.kept ≢ kind_of c.lost) where
           ≡ record { refusal = 0; verdict = r.verdict; positions = 0; rounds = r.rounds; length = 0 }
       own_accepted = ap checked_values_of accepted ∙ rw d.numbers
         where
-          accepted : check c file (certificate_left c file table buffer) ≡ Accepted d.verdict d.rounds
+          accepted : check c file (certificate_left c file table buffer) ≡ Ok (record { verdict = d.verdict; rounds = d.rounds })
           accepted =
               let (long, left) = leaves_a-certificate in
               checked_read c file _ d.read

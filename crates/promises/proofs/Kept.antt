@@ -1,12 +1,12 @@
 -- The promises of specs/Promises.antt are kept, and the functions that people call end on every input and return what these speak
 -- of. Assumes nothing.
-use mathlib.Core.Path.{ap}
+use mathlib.Core.Path.{ap, ◌∙◌}
 use mathlib.Core.Logic.{◌≢◌}
 use native.Mathlib.Omega.{arith}
 use Rattle.fra.specs.Lists.{◌∈◌}
 use Rattle.fra.specs.Reach.{reached}
 use Rattle.task.specs.TaskFile.{task_of, max_registers}
-use Rattle.outcome.specs.Verdicts.{Contest, equality, one_way, kind_of, checked_values_of}
+use Rattle.outcome.specs.Verdicts.{Contest, equality, one_way, kind_of, checked_values_of, number_and_zeros}
 use Rattle.outcome.specs.Check.{check}
 use Rattle.fra_laws.proofs.Reached.{reached-start, reached-legal}
 use Rattle.fra_laws.proofs.Bisimulation.{kept_members, never_lost_in-bisimulation, lost_in_no_bisimulation}
@@ -87,7 +87,9 @@ module _ (c : Contest) (kinds_differ : kind_of c.kept ≢ kind_of c.lost) where
         checker_answers = check-answers c kinds_differ;
         checker_refuses-exactly = rejects_exactly c kinds_differ;
         checker_refusal_returns =
-            λ file certificate n least h. ap checked_values_of ((rejection_number (check c file certificate) n least).0 h);
+            λ file certificate n least h.
+            let (e, d, f) = (rejection_number (check c file certificate) n least).0 h in
+            ap checked_values_of f ∙ ap number_and_zeros d;
       }
 
   demand_2 : Demand2 c

@@ -50,7 +50,7 @@ Gives v r = (r.refusal ≡ 0) × (r.verdict ≡ kind_of v)
 
 pub record Demand1 (c : Contest) : Type 0 where
   -- A file is turned back with n exactly in the case that is named for n.
-  pub reader_refuses-exactly : (file : List ℕ) (n : ℕ) → 0 < n → (refusal_of (read_task file).answer ≡ n) ↔ TurnedBack n file
+  pub reader_refuses-exactly : (file : List ℕ) (n : ℕ) → 0 < n → (refusal_of (read_task file) ≡ n) ↔ TurnedBack n file
   -- A file is read as a task exactly if it is the task's bytes and the task is one that a file can hold.
   pub reader_reads_exactly : (file : List ℕ) (t : Task) → (IsRead file × (task_of file ≡ t)) ↔ ((file ≡ encode_task t) × Writable t)
   -- Every comparison gives one of its two verdicts or a refusal.

@@ -19,11 +19,7 @@ use table_keys::{Radix, position};
 pub fn clear(table: &mut [u8])
     ensures { table.new ≡ cleared table.old }
 {
-    let mut i = 0;
-    while i < table.len() {
-        table[i] = 0;
-        i += 1;
-    }
+    table.fill(0);
 }
 
 // Fills the table with zeros from a place on.
@@ -49,9 +45,7 @@ pub fn lay_out(table: &mut [u8], n: usize, radix: Radix)
     requires { (n * entry_width ≤ length table.old) × Sized radix × KeysBelow (key_count radix) n table.old }
     ensures { table.new ≡ laid_out radix (keys n table.old) ++ drop (n * entry_width) table.old }
 {
-    let mut i = n;
-    while 0 < i {
-        i -= 1;
+    for i in (0..n).rev() {
         put_row(table, i, position(radix, word_at(table, i * WORD)));
     }
 }

@@ -49,13 +49,8 @@ impl Radix {
         requires { Sized self }
         ensures { result ≡ key_count self }
     {
-        let mut fronts = (self.left as u32) * (self.right as u32);
-        let mut i: u8 = 0;
-        while i < self.registers {
-            fronts *= PARTNER_BASE;
-            i += 1;
-        }
-        fronts * self.sizes()
+        let states = (self.left as u32) * (self.right as u32);
+        states * PARTNER_BASE.pow(self.registers as u32) * self.sizes()
     }
 }
 
@@ -64,12 +59,9 @@ pub fn key(radix: Radix, p: Position) -> u32
     requires { Sized radix × Fits radix p }
     ensures { result ≡ key_of radix p }
 {
-    let partners = p.partners;
     let mut front = (p.left as u32) * (radix.right as u32) + (p.right as u32);
-    let mut i: u8 = 0;
-    while i < radix.registers {
-        front = front * PARTNER_BASE + (partners[i as usize] as u32);
-        i += 1;
+    for x in &p.partners[..radix.registers as usize] {
+        front = front * PARTNER_BASE + (*x as u32);
     }
     front * radix.sizes() + ((p.history - radix.least) as u32)
 }
@@ -82,9 +74,7 @@ pub fn position(radix: Radix, key: u32) -> Position
     let sizes = radix.sizes();
     let mut partners = Position::EMPTY;
     let mut front = key / sizes;
-    let mut i = radix.registers;
-    while 0 < i {
-        i -= 1;
+    for i in (0..radix.registers).rev() {
         partners[i as usize] = (front % PARTNER_BASE) as u8;
         front /= PARTNER_BASE;
     }

@@ -23,11 +23,16 @@ row-length p n e = length-append (bytes p) (word n) ∙ ap (λ (k : ℕ). k + wo
 
 -- ── Keys laid out ──
 
+-- a key's entry
+abbrev pub entry_of : Radix → ℕ → List ℕ
+entry_of x k = row (position_from x k) all_ones
+
+pub entry_of-length : (x : Radix) → Sized x → (k : ℕ) → length (entry_of x k) ≡ entry_width
+entry_of-length x s k = row-length (position_from x k) all_ones (position_from-registers s k)
+
 pub laid_out-length : (x : Radix) (ks : List ℕ) → Sized x → length (laid_out x ks) ≡ length ks * entry_width
 unfolding laid_out
-laid_out-length x ks s =
-    records-length (λ k. row (position_from x k) all_ones) entry_width ks
-    (λ k m. row-length (position_from x k) all_ones (position_from-registers s k))
+laid_out-length x ks s = records-length (entry_of x) entry_width ks (λ k m. entry_of-length x s k)
 
 -- ── Records spread to a greater width, from the last one down ──
 

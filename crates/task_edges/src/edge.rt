@@ -1,39 +1,37 @@
 // "3, edge: from, tag, kind, register, to."
-ghost use Rattle.std.specs.Prelude.{◌<◌, ◌≡◌};
+ghost use Rattle.std.specs.Prelude.{◌<◌, ◌≡◌, leb};
 ghost use Rattle.fra.specs.Model.{edge_bytes};
 ghost use Rattle.task.specs.TaskFile.{max_edges, edge_of_body, edge_exists, keeps_rule, rises, edge_refusal, with_edge, edge_at, edge};
 ghost use Rattle.task_edges.specs.Ruled.{ruled};
 
 use fra::{Edge, EdgeKind, Model, Side, has};
-use task::{Progress, Stage, Stepped};
+use task::{Progress, Refusal, Stage};
 use task_lookup::{bytes, models, sets};
+use task_progress::with_model;
 
 // The edge that a body stands for.
+#[tactic(auto, unfolding(task::specs::TaskFile::edge_of_body))]
 fn of_body(body: &[u8]) -> Edge
     ensures { result ≡ edge_of_body body.now }
 {
-    let kind = EdgeKind::of(bytes::at(body, 2), bytes::at(body, 3));
     Edge {
         from: bytes::at(body, 0),
         tag: bytes::at(body, 1),
-        kind,
+        kind: EdgeKind::of(bytes::at(body, 2), bytes::at(body, 3)),
         to: bytes::at(body, 4),
     }
 }
 
 // The five bytes of an edge.
+#[tactic(auto, unfolding(fra::specs::Model::edge_bytes))]
 fn bytes_of(e: Edge) -> [u8; 5]
     ensures { result ≡ edge_bytes e }
 {
-    let kind = e.kind;
-    match kind {
-        EdgeKind::Known(i) => [e.from, e.tag, 0, i, e.to],
-        EdgeKind::LocallyFresh(i) => [e.from, e.tag, 1, i, e.to],
-        EdgeKind::GloballyFresh(i) => [e.from, e.tag, 2, i, e.to],
-    }
+    [e.from, e.tag, e.kind.number(), e.kind.register(), e.to]
 }
 
 // Its states, tag, kind and register exist.
+#[tactic(auto, unfolding(task::specs::TaskFile::edge_exists))]
 fn exists(m: Model, body: &[u8]) -> bool
     ensures { result ≡ edge_exists m body.now }
 {
@@ -51,6 +49,7 @@ fn exists(m: Model, body: &[u8]) -> bool
 }
 
 // It keeps its kind's rule on the from set and the to set.
+#[tactic(auto, unfolding(task::specs::TaskFile::keeps_rule))]
 fn keeps_rule(registers: u8, from: u8, to: u8, kind: EdgeKind) -> bool
     ensures { result ≡ keeps_rule registers from to kind }
 {
@@ -72,32 +71,43 @@ fn ruled(m: Model, body: &[u8]) -> bool
 }
 
 // It is above the last edge of the model.
+#[tactic(auto, unfolding(task::specs::TaskFile::rises))]
 fn rises(m: Model, body: &[u8]) -> bool
     ensures { result ≡ rises m body.now }
 {
-    let count = m.edge_count;
-    if count == 0 {
+    if m.edge_count == 0 {
         return true;
     }
-    let last = bytes_of(models::edge_of(m, count - 1));
-    bytes::below(&last, body)
+    bytes::below(&bytes_of(models::edge_of(m, m.edge_count - 1)), body)
 }
 
-fn refusal(m: Model, body: &[u8]) -> u8
+// The model has all the edges that it may have.
+fn is_full(m: Model) -> bool
+    ensures { result ≡ leb max_edges m.edge_count }
+{
+    Model::EDGES <= m.edge_count
+}
+
+#[tactic(auto, unfolding(task::specs::TaskFile::edge_refusal))]
+fn admit(m: Model, body: &[u8]) -> Result<(), Refusal>
     ensures { result ≡ edge_refusal m body.now }
 {
     if !exists(m, body) {
-        return 6;
+        return Err(Refusal::BadEdge);
     }
     if !ruled(m, body) {
-        return 7;
+        return Err(Refusal::BrokenRule);
     }
     if !rises(m, body) {
-        return 8;
+        return Err(Refusal::EdgesNotRising);
     }
-    if Model::EDGES <= m.edge_count { 9 } else { 0 }
+    if is_full(m) {
+        return Err(Refusal::TooManyEdges);
+    }
+    Ok(())
 }
 
+#[tactic(auto, unfolding(task::specs::TaskFile::with_edge))]
 fn with_edge(m: Model, e: Edge) -> Model
     requires { m.edge_count < max_edges }
     ensures { result ≡ with_edge m e }
@@ -110,26 +120,26 @@ fn with_edge(m: Model, e: Edge) -> Model
 }
 
 // An edge of this side, where one may stand.
-fn step_of(side: Side, p: Progress, body: &[u8]) -> Stepped
+#[tactic(auto, unfolding(task::specs::TaskFile::edge_at))]
+fn step_of(side: Side, p: Progress, body: &[u8]) -> Result<Progress, Refusal>
     ensures { result ≡ edge_at side p body.now }
 {
     let t = p.task;
     let m = models::model_of(t, side);
-    let n = refusal(m, body);
-    if n != 0 {
-        return task_progress::refuse(n, p);
-    }
-    let u = task_progress::with_model(t, side, with_edge(m, of_body(body)));
-    task_progress::next(Stage::Edges(side), u)
+    admit(m, body)?;
+    Ok(Progress {
+        stage: Stage::Edges(side),
+        task: with_model(t, side, with_edge(m, of_body(body))),
+    })
 }
 
 // It stands after the states of its model.
-pub fn step(p: Progress, body: &[u8]) -> Stepped
+#[tactic(auto, unfolding(task::specs::TaskFile::edge))]
+pub fn step(p: Progress, body: &[u8]) -> Result<Progress, Refusal>
     ensures { result ≡ edge p.stage p body.now }
 {
-    let stage = p.stage;
-    let Stage::Edges(side) = stage else {
-        return task_progress::refuse(3, p);
+    let Stage::Edges(side) = p.stage else {
+        return Err(Refusal::Misplaced);
     };
     step_of(side, p, body)
 }

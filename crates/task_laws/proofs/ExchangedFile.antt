@@ -22,5 +22,5 @@ pub exchanged_is_read : (file : List ℕ) → IsRead file
 unfolding exchanged_file
 exchanged_is_read file read =
     let writable = exchanged_writable (read_writable file (read_answer file read)) in
-    let (answer, task) = (read-exactly (exchanged_file file) (exchanged (task_of file))).1 (refl, writable) in
-    (answer-read (exchanged_file file) answer, task)
+    let answer = (read-exactly (exchanged_file file) (exchanged (task_of file))).1 (refl, writable) in
+    (answer-read (exchanged_file file) answer, rw answer refl)

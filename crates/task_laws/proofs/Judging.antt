@@ -16,7 +16,11 @@ use Rattle.fra.specs.Valid.{RegisterRule}
 use Rattle.fra.specs.Position.{right_partner, most_seen, held}
 use Rattle.fra.specs.declared.Model.{Model}
 use Rattle.fra.specs.declared.Task.{Task}
-use Rattle.task.specs.TaskFile.{max_registers, max_states, tag_count, max_edges, header_refusal, state_refusal, edge_exists, keeps_rule, rises, edge_refusal, rising, pair_refusal, history_refusal}
+use Rattle.std.specs.Prelude.{Result, Ok, Err}
+use Rattle.task.specs.declared.Refusal.{Refusal}
+use Rattle.task.specs.declared.Refusal.TheVariants.{Misplaced, BadHeader, BadState, BadEdge, BrokenRule, EdgesNotRising, TooManyEdges, BadPair, BadHistory}
+use Rattle.task.specs.Refusals.{number_of}
+use Rattle.task.specs.TaskFile.{max_registers, max_states, tag_count, max_edges, header_refusal, state_refusal, edge_exists, keeps_rule, edge_refusal, rising, pair_refusal, history_refusal}
 use borrow.Author.Tests.{ltb-true, ltb-false, eq-eqb, leb-true, leb-false, eqb-true, eqb-false, not-true, not-false}
 use Rattle.task_laws.proofs.SeveralTests.{some-of_three, some-of_four, not_all-of_six}
 use Rattle.task_laws.proofs.RegisterBits.{has-below, has_above, inside_false}
@@ -28,7 +32,7 @@ use Rattle.task_laws.proofs.Ties.{Written, Paired}
 use Rattle.task_laws.proofs.HeldAtStart.{start-set}
 use Rattle.fra_laws.proofs.Tests.{and_false, or_cases, not_both, passes_or_fails}
 use Rattle.fra_laws.proofs.Registers.{has_positive}
-use Rattle.task.specs.Records.{Record, header, state, edge, pair, history, end, Allowed, states_read, registers, states, earlier, start_set, held_at_start, Rule, place, header-rule, state-rule, existence, register-rule, edge_order, edge-limit, pair-rule, history-rule, number, order, HeaderFault, StateFault, Nonexistence, RegisterFault, KindFault, OrderFault, LimitFault, PairFault, HistoryFault, Breaks}
+use Rattle.task.specs.Records.{Record, header, state, edge, pair, history, end, Allowed, states_read, registers, earlier, start_set, held_at_start, Rule, place, header-rule, state-rule, existence, register-rule, edge_order, edge-limit, pair-rule, history-rule, number, order, HeaderFault, StateFault, Nonexistence, RegisterFault, KindFault, OrderFault, LimitFault, PairFault, HistoryFault, Breaks}
 
 -- ── The first rule that is broken ──
 
@@ -36,10 +40,34 @@ use Rattle.task.specs.Records.{Record, header, state, edge, pair, history, end, 
 abbrev Below : ℕ → List Record → Record → Type 0
 Below n l x = (rule : Rule) → order rule < n → Breaks rule l x → ⊥
 
--- a refusal's number, 0 for none, is right for a record
-pub data Judged (l : List Record) (x : Record) (n : ℕ) : Type 0 where
-  obeys : n ≡ 0 → ((rule : Rule) → Breaks rule l x → ⊥) → Judged l x n
-  breaks : (rule : Rule) → n ≡ number rule → Breaks rule l x → Below (order rule) l x → Judged l x n
+-- the refusal of a record that breaks a rule, and its number
+abbrev pub refusal_for : Rule → Refusal
+refusal_for place = Misplaced
+refusal_for header-rule = BadHeader
+refusal_for state-rule = BadState
+refusal_for existence = BadEdge
+refusal_for register-rule = BrokenRule
+refusal_for edge_order = EdgesNotRising
+refusal_for edge-limit = TooManyEdges
+refusal_for pair-rule = BadPair
+refusal_for history-rule = BadHistory
+
+pub number_of-refusal_for : (rule : Rule) → number_of (refusal_for rule) ≡ number rule
+unfolding number
+number_of-refusal_for place = refl
+number_of-refusal_for header-rule = refl
+number_of-refusal_for state-rule = refl
+number_of-refusal_for existence = refl
+number_of-refusal_for register-rule = refl
+number_of-refusal_for edge_order = refl
+number_of-refusal_for edge-limit = refl
+number_of-refusal_for pair-rule = refl
+number_of-refusal_for history-rule = refl
+
+-- a result is right for a record: a refusal is that of the first rule that it breaks
+pub data Judged {A : Type 0} (l : List Record) (x : Record) (r : Result A Refusal) : Type 0 where
+  obeys : (a : A) → r ≡ Ok a → ((rule : Rule) → Breaks rule l x → ⊥) → Judged l x r
+  breaks : (rule : Rule) → r ≡ Err (refusal_for rule) → Breaks rule l x → Below (order rule) l x → Judged l x r
 
 -- the rule at a place of the checking order
 rule_of : ℕ → Rule
@@ -120,21 +148,21 @@ module _ (l : List Record) (x : Record) where
   unfolding order Breaks
   placed allowed = pass place (λ out. out allowed) (λ rule h. absurd (omega arith))
 
-  pub misplaced : (Allowed l x → ⊥) → Judged l x 3
-  unfolding number order Breaks
+  pub misplaced : {A : Type 0} → (Allowed l x → ⊥) → Judged {A = A} l x (Err Misplaced)
+  unfolding order Breaks
   misplaced out = breaks place refl out (λ rule h. absurd (omega arith))
 
   -- no rule is broken
-  obeyed : Below (suc (order history-rule)) l x → Judged l x 0
-  obeyed below = obeys refl (λ rule. below rule (omega (arith, order_last rule)))
+  obeyed : {A : Type 0} (a : A) → Below (suc (order history-rule)) l x → Judged l x (Ok a)
+  obeyed a below = obeys a refl (λ rule. below rule (omega (arith, order_last rule)))
 
   -- a test decides whether a rule is broken
-  check : (rule : Rule) (t : Bool) (n : ℕ) → Below (order rule) l x → (t ≡ true → Breaks rule l x)
+  check : (rule : Rule) (t : Bool) (c : Result (Unit {0}) Refusal) → Below (order rule) l x → (t ≡ true → Breaks rule l x)
       → (t ≡ false → Breaks rule l x → ⊥)
-      → (t ≡ false → Below (suc (order rule)) l x → Judged l x n)
-      → Judged l x (cond t (number rule) n)
-  check rule true n below faulty kept rest = breaks rule refl (faulty refl) below
-  check rule false n below faulty kept rest = rest refl (pass rule (kept refl) below)
+      → (t ≡ false → Below (suc (order rule)) l x → Judged l x c)
+      → Judged l x (cond t (Err (refusal_for rule)) c)
+  check rule true c below faulty kept rest = breaks rule refl (faulty refl) below
+  check rule false c below faulty kept rest = rest refl (pass rule (kept refl) below)
 
 -- ── Headers ──
 
@@ -157,13 +185,13 @@ header-kept f (inr (inr (inl h))) = omega arith
 header-kept f (inr (inr (inr h))) = omega arith
 
 pub header-judged : (l : List Record) (r n q : ℕ) → Allowed l (header r n q) → Judged l (header r n q) (header_refusal r n q)
-unfolding header_refusal number order Breaks StateFault Nonexistence KindFault OrderFault LimitFault PairFault HistoryFault
+unfolding header_refusal order Breaks StateFault Nonexistence KindFault OrderFault LimitFault PairFault HistoryFault
 header-judged l r n q allowed =
     let x = header r n q in
-    check l x header-rule _ 0 (placed l x allowed) (header_faulty r n q)
+    check l x header-rule _ (Ok tt) (placed l x allowed) (header_faulty r n q)
     (λ e. header-kept (header-fits r n q (rw e)))
     (λ e below.
-    obeyed l x
+    obeyed l x tt
     (pass l x history-rule (λ b. b)
     (pass l x pair-rule (λ b. b)
     (pass l x edge-limit (λ b. b)
@@ -191,13 +219,13 @@ module _ (l : List Record) (m : Model) (q n set mark : ℕ) (due : states_read l
   state-kept f (inr (inr h)) = omega arith
 
   pub state-judged : Allowed l (state n set mark) → Judged l (state n set mark) (state_refusal m q n set mark)
-  unfolding state_refusal number order Breaks HeaderFault Nonexistence KindFault OrderFault LimitFault PairFault HistoryFault
+  unfolding state_refusal order Breaks HeaderFault Nonexistence KindFault OrderFault LimitFault PairFault HistoryFault
   state-judged allowed =
       let x = state n set mark in
-      check l x state-rule _ 0
+      check l x state-rule _ (Ok tt)
       (pass l x header-rule (λ b. b) (placed l x allowed)) state_faulty (λ e. state-kept (state-fits m q n set mark (rw e)))
       (λ e below.
-      obeyed l x
+      obeyed l x tt
       (pass l x history-rule (λ b. b)
       (pass l x pair-rule (λ b. b)
       (pass l x edge-limit (λ b. b)
@@ -262,7 +290,7 @@ module _ (l : List Record) (m : Model) (from tag kind i to : ℕ) (w : Written l
 
   pub edge-judged : Whole m → Allowed l (edge from tag kind i to)
       → Judged l (edge from tag kind i to) (edge_refusal m (from ∷ tag ∷ kind ∷ i ∷ to ∷ []))
-  unfolding edge_refusal number order Breaks HeaderFault StateFault OrderFault LimitFault PairFault HistoryFault
+  unfolding edge_refusal order Breaks HeaderFault StateFault OrderFault LimitFault PairFault HistoryFault
   edge-judged whole allowed =
       check l x existence _ _
       (pass l x state-rule (λ b. b) (pass l x header-rule (λ b. b) (placed l x allowed)))
@@ -274,10 +302,10 @@ module _ (l : List Record) (m : Model) (from tag kind i to : ℕ) (w : Written l
       (λ e below.
       check l x edge_order _ _ below (λ e. sym (w.order from (tag ∷ kind ∷ i ∷ to ∷ [])) ∙ not-true _ e)
       (λ e h. not_both _ (not-false _ e) (w.order from (tag ∷ kind ∷ i ∷ to ∷ []) ∙ h)) (λ e below.
-      check l x edge-limit (leb max_edges m.edge_count) 0 below
+      check l x edge-limit (leb max_edges m.edge_count) (Ok tt) below
       (λ e. omega (arith, leb-true max_edges m.edge_count e, whole.valid.edges_placed))
       (λ e h. omega (arith, leb-false max_edges m.edge_count e))
-      (λ e below. obeyed l x (pass l x history-rule (λ b. b) (pass l x pair-rule (λ b. b) below))))))
+      (λ e below. obeyed l x tt (pass l x history-rule (λ b. b) (pass l x pair-rule (λ b. b) below))))))
     where
       x : Record
       x = edge from tag kind i to
@@ -351,16 +379,16 @@ module _ (l : List Record) (t : Task) (a b : ℕ) (left : Written (earlier l) t.
       not_both _ (any_at (eqb b) t.start.partners v.0 0 v.2 (eq-eqb b _ (sym v.3))) f.unused
 
   pub pair-judged : Allowed l (pair a b) → Judged l (pair a b) (pair_refusal t a b)
-  unfolding pair_refusal number order Breaks HeaderFault StateFault Nonexistence KindFault OrderFault LimitFault HistoryFault
+  unfolding pair_refusal order Breaks HeaderFault StateFault Nonexistence KindFault OrderFault LimitFault HistoryFault
   pair-judged allowed =
       let x = pair a b in
-      check l x pair-rule _ 0
+      check l x pair-rule _ (Ok tt)
       (pass l x edge-limit (λ b. b)
       (pass l x edge_order (λ b. b)
       (pass l x register-rule (λ b. b)
       (pass l x existence (λ b. b) (pass l x state-rule (λ b. b) (pass l x header-rule (λ b. b) (placed l x allowed)))))))
       (λ e. pair_faulty (some-of_four _ _ _ _ e)) (λ e. pair-kept (pair_fits t a b (rw e)))
-      (λ e below. obeyed l x (pass l x history-rule (λ b. b) below))
+      (λ e below. obeyed l x tt (pass l x history-rule (λ b. b) below))
 
 -- ── The history's size ──
 
@@ -379,23 +407,23 @@ module _ (l : List Record) (t : Task) (n : ℕ) (same : held t t.start ≡ held_
   history-kept f (inr h) = omega arith
 
   pub history-judged : Allowed l (history n) → Judged l (history n) (history_refusal t n)
-  unfolding history_refusal number order Breaks HeaderFault StateFault Nonexistence KindFault OrderFault LimitFault PairFault
+  unfolding history_refusal order Breaks HeaderFault StateFault Nonexistence KindFault OrderFault LimitFault PairFault
   history-judged allowed =
       let x = history n in
-      check l x history-rule _ 0
+      check l x history-rule _ (Ok tt)
       (pass l x pair-rule (λ b. b)
       (pass l x edge-limit (λ b. b)
       (pass l x edge_order (λ b. b)
       (pass l x register-rule (λ b. b)
       (pass l x existence (λ b. b) (pass l x state-rule (λ b. b) (pass l x header-rule (λ b. b) (placed l x allowed))))))))
-      history_faulty (λ e. history-kept (history-fits t n (rw e))) (λ e. obeyed l x)
+      history_faulty (λ e. history-kept (history-fits t n (rw e))) (λ e. obeyed l x tt)
 
 -- ── The end ──
 
-pub end-judged : (l : List Record) → Allowed l end → Judged l end 0
-unfolding number order Breaks HeaderFault StateFault Nonexistence KindFault OrderFault LimitFault PairFault HistoryFault
+pub end-judged : (l : List Record) → Allowed l end → Judged {A = Unit {0}} l end (Ok tt)
+unfolding order Breaks HeaderFault StateFault Nonexistence KindFault OrderFault LimitFault PairFault HistoryFault
 end-judged l allowed =
-    obeyed l end
+    obeyed l end tt
     (pass l end history-rule (λ b. b)
     (pass l end pair-rule (λ b. b)
     (pass l end edge-limit (λ b. b)

@@ -1,6 +1,7 @@
 -- The laws of the task file: `read-exactly` (ReadExactly), `read-valid` and `read_limits` (ReadValid), `refused-exactly`
 -- (FileRefusals), `exchanged_is_read` (ExchangedFile). The other files lead up to them.
 pub mod SeveralTests
+pub mod RefusalNumbers
 pub mod RegisterBits
 pub mod Arrays
 pub mod RunsAndHalts

@@ -1,16 +1,17 @@
 -- The reader's answer and its number: a file is read exactly if the answer says so, since no refusal has the number 0. Assumes
 -- nothing.
 use Prim.Native.Nat.{ℕ, ◌≤◌, ◌<◌}
-use mathlib.Core.Path.{◌≡◌, refl, sym, ◌∙◌, ap}
+use mathlib.Core.Path.{◌≡◌, refl, ap}
 use mathlib.Core.Logic.{◌⊎◌, inl, inr}
 use mathlib.Core.List.{List}
 use native.Mathlib.Omega.{arith}
 use Rattle.task.specs.Records.{TurnedBack}
-use Rattle.task.specs.TaskFile.{read_task, refusal_of, IsRead}
-use Rattle.task.specs.declared.Answer.{Answer}
-use Rattle.task.specs.declared.Answer.TheVariants.{Read, Refused}
+use Rattle.std.specs.Prelude.{Result, Ok, Err}
+use Rattle.fra.specs.declared.Task.{Task}
+use Rattle.task.specs.declared.Refusal.{Refusal}
+use Rattle.task.specs.TaskFile.{read_task, task_of, refusal_of, IsRead}
 use Rattle.task_laws.proofs.Judging.{number-least, number_apart}
-use Rattle.task_laws.proofs.FileRefusals.{refused-exactly}
+use Rattle.task_laws.proofs.RefusalNumbers.{number_of-least}
 
 pub turned_back_number : (n : ℕ) (file : List ℕ) → TurnedBack n file → 0 < n
 unfolding TurnedBack
@@ -26,15 +27,12 @@ turned_back_apart n file (inr (inl (e, h))) = inl (omega arith)
 turned_back_apart n file (inr (inr (rule, e, h))) = rw e (number_apart rule)
 
 module _ (file : List ℕ) where
-  pub answer-read : (read_task file).answer ≡ Read → IsRead file
+  pub answer-read : {t : Task} → read_task file ≡ Ok t → IsRead file
   answer-read e = ap refusal_of e
 
-  pub read_answer : IsRead file → (read_task file).answer ≡ Read
-  read_answer h = by (read_task file).answer refl
+  pub read_answer : IsRead file → read_task file ≡ Ok (task_of file)
+  read_answer h = by (read_task file) refl h
     where
-      by : (a : Answer) → (read_task file).answer ≡ a → (read_task file).answer ≡ Read
-      by Read e = e
-      by (Refused m) e =
-          let least = turned_back_number m file ((refused-exactly file m).0 e) in
-          let none_refused : m ≡ 0 = sym (ap refusal_of e) ∙ h in
-          absurd (omega arith)
+      by : (r : Result Task Refusal) → read_task file ≡ r → refusal_of r ≡ 0 → read_task file ≡ Ok (task_of file)
+      by (Ok t) e h = rw e refl
+      by (Err m) e h = absurd (omega (arith, number_of-least m))

@@ -28,8 +28,8 @@ use Rattle.task.specs.TaskBytes.{edge_record, model_records, pair_records, histo
 use Rattle.task.specs.declared.Stage.{Stage}
 use Rattle.task.specs.declared.Stage.TheVariants.{Start, States, Edges, Pairs, Sized, Ended}
 use Rattle.task.specs.declared.Progress.{Progress}
-use Rattle.task.specs.declared.Answer.TheVariants.{Read}
-use Rattle.fra_laws.proofs.Tests.{and_left, and_right, and_intro, or_cases, or_left, or_right, or_false_left, or_false_right, or_false_intro}
+use Rattle.std.specs.Prelude.{Ok}
+use Rattle.fra_laws.proofs.Tests.{clash, and_left, and_right, and_intro, or_cases, or_left, or_right, or_false_left, or_false_right, or_false_intro}
 use Rattle.fra_laws.proofs.Registers.{has_positive, matching_facts}
 use Rattle.fra_laws.proofs.HeldNumbers.{held-most}
 use Rattle.fra_laws.proofs.Legal.{legal_intro}
@@ -287,12 +287,12 @@ abbrev Before : Side → Task → Type 0
 Before Left t = Unit {0}
 Before Right t = Whole t.left
 
-header-sound : (s : Side) (p : Progress) (r n q : ℕ) → Before s p.task → p.task.history_stated ≡ false
-    → (header_at s p (r ∷ n ∷ q ∷ [])).refusal ≡ 0
-    → Reading (records_before s p.task ++ header r n q ∷ []) (header_at s p (r ∷ n ∷ q ∷ [])).progress
+header-sound : (s : Side) (p : Progress) {now : Progress} (r n q : ℕ) → Before s p.task → p.task.history_stated ≡ false
+    → header_at s p (r ∷ n ∷ q ∷ []) ≡ Ok now
+    → Reading (records_before s p.task ++ header r n q ∷ []) now
 unfolding header_at headed with_header count
 header-sound Left p r n q h unstated e =
-    decided_passes (Reading _) (header_refusal r n q) p _ e
+    decided_passes (Reading _) (header_refusal r n q) _ e
     (λ z.
     let f = header-fits r n q z in
     record {
@@ -300,7 +300,7 @@ header-sound Left p r n q h unstated e =
       exact = refl;
     })
 header-sound Right p r n q h unstated e =
-    decided_passes (Reading _) (header_refusal r n q) p _ e
+    decided_passes (Reading _) (header_refusal r n q) _ e
     (λ z.
     let f = header-fits r n q z in
     record {
@@ -313,12 +313,12 @@ header-sound Right p r n q h unstated e =
       exact = refl;
     })
 
-state-sound : (s : Side) (q : ℕ) (p : Progress) (n set mark : ℕ) → SoundAt (States s q) p.task
-    → (state_at s q p (n ∷ set ∷ mark ∷ [])).refusal ≡ 0
-    → Reading (records_at (States s q) p.task ++ state n set mark ∷ []) (state_at s q p (n ∷ set ∷ mark ∷ [])).progress
+state-sound : (s : Side) (q : ℕ) (p : Progress) {now : Progress} (n set mark : ℕ) → SoundAt (States s q) p.task
+    → state_at s q p (n ∷ set ∷ mark ∷ []) ≡ Ok now
+    → Reading (records_at (States s q) p.task ++ state n set mark ∷ []) now
 unfolding state_at after_state with_state
 state-sound s q p n set mark h e =
-    decided_passes (Reading _) (state_refusal (model_of p.task s) q n set mark) p _ e
+    decided_passes (Reading _) (state_refusal (model_of p.task s) q n set mark) _ e
     (λ z.
     let f = state-fits (model_of p.task s) q n set mark z in
     after (eqb (q + 1) (model_of p.task s).state_count) refl f.number_due (begun-with_state h.due h.model f))
@@ -357,13 +357,12 @@ state-sound s q p n set mark h e =
           exact = records-more s p.task m (begun_records (q + 1)) _ _ (more due);
         }
 
-edge-sound : (s : Side) (p : Progress) (from tag kind i to : ℕ) → SoundAt (Edges s) p.task
-    → (edge_at s p (from ∷ tag ∷ kind ∷ i ∷ to ∷ [])).refusal ≡ 0
-    → Reading (records_at (Edges s) p.task ++ edge from tag kind i to ∷ [])
-    (edge_at s p (from ∷ tag ∷ kind ∷ i ∷ to ∷ [])).progress
+edge-sound : (s : Side) (p : Progress) {now : Progress} (from tag kind i to : ℕ) → SoundAt (Edges s) p.task
+    → edge_at s p (from ∷ tag ∷ kind ∷ i ∷ to ∷ []) ≡ Ok now
+    → Reading (records_at (Edges s) p.task ++ edge from tag kind i to ∷ []) now
 unfolding edge_at with_edge
 edge-sound s p from tag kind i to h e =
-    decided_passes (Reading _) (edge_refusal (model_of p.task s) (from ∷ tag ∷ kind ∷ i ∷ to ∷ [])) p _ e
+    decided_passes (Reading _) (edge_refusal (model_of p.task s) (from ∷ tag ∷ kind ∷ i ∷ to ∷ [])) _ e
     (λ z.
     let f = edge-fits (model_of p.task s) from tag kind i to z in
     record {
@@ -381,11 +380,11 @@ edge-sound s p from tag kind i to h e =
     m : Model
     m = model_of p.task s
 
-pair-sound : (p : Progress) (a b : ℕ) → Unsized p.task → (pair_at p (a ∷ b ∷ [])).refusal ≡ 0
-    → Reading (paired_records p.task ++ pair a b ∷ []) (pair_at p (a ∷ b ∷ [])).progress
+pair-sound : (p : Progress) {now : Progress} (a b : ℕ) → Unsized p.task → pair_at p (a ∷ b ∷ []) ≡ Ok now
+    → Reading (paired_records p.task ++ pair a b ∷ []) now
 unfolding pair_at with_pair
 pair-sound p a b h e =
-    decided_passes (Reading _) (pair_refusal p.task a b) p _ e
+    decided_passes (Reading _) (pair_refusal p.task a b) _ e
     (λ z.
     let f = pair_fits p.task a b z in
     let w = pair-places h.finished f in
@@ -399,64 +398,70 @@ pair-sound p a b h e =
     partners : List ℕ
     partners = p.task.start.partners
 
-history-sound : (p : Progress) (size : ℕ) → Unsized p.task → (history_at p (size ∷ [])).refusal ≡ 0
-    → Reading (paired_records p.task ++ history size ∷ []) (history_at p (size ∷ [])).progress
+history-sound : (p : Progress) {now : Progress} (size : ℕ) → Unsized p.task → history_at p (size ∷ []) ≡ Ok now
+    → Reading (paired_records p.task ++ history size ∷ []) now
 unfolding history_at with_history history_records
 history-sound p size h e =
-    decided_passes (Reading _) (history_refusal p.task size) p _ e
+    decided_passes (Reading _) (history_refusal p.task size) _ e
     (λ z. record { sound = settled_with_history h.finished (history-fits p.task size z); exact = refl })
 
-end-sound : (p : Progress) → Unsized p.task → Reading (paired_records p.task ++ end ∷ []) (end_at p).progress
+-- the end record ends what is read
+ended-as : (p q : Progress) → end_at p ≡ Ok q → q ≡ record { stage = Ended; task = p.task }
 unfolding end_at
-end-sound p h =
-    record {
+ended-as p q e = cc
+
+end-sound : (p : Progress) {now : Progress} → Unsized p.task → end_at p ≡ Ok now
+    → Reading (paired_records p.task ++ end ∷ []) now
+end-sound p {now} h e =
+    rw (ended-as p now e)
+    (record {
       sound = unsized_settled h;
       exact = rw (unstated-records p.task h.unstated) at (ended_records p.task);
-    }
+    })
 
-sound-step : (x : Record) (stage : Stage) (p : Progress) → SoundAt stage p.task → (step_at x stage p).refusal ≡ 0
-    → Reading (records_at stage p.task ++ x ∷ []) (step_at x stage p).progress
-unfolding TaskFile.header TaskFile.state TaskFile.edge TaskFile.pair TaskFile.history TaskFile.end end_at
+sound-step : (x : Record) (stage : Stage) (p : Progress) {now : Progress} → SoundAt stage p.task → step_at x stage p ≡ Ok now
+    → Reading (records_at stage p.task ++ x ∷ []) now
+unfolding TaskFile.header TaskFile.state TaskFile.edge TaskFile.pair TaskFile.history TaskFile.end
 sound-step (header r n q) Start p h e = header-sound Left p r n q tt h e
-sound-step (header r n q) (States s k) p h e = absurd (omega arith)
+sound-step (header r n q) (States s k) p h e = clash (cc)
 sound-step (header r n q) (Edges Left) p h e = header-sound Right p r n q h.model h.unstated e
-sound-step (header r n q) (Edges Right) p h e = absurd (omega arith)
-sound-step (header r n q) Pairs p h e = absurd (omega arith)
-sound-step (header r n q) Sized p h e = absurd (omega arith)
-sound-step (header r n q) Ended p h e = absurd (omega arith)
-sound-step (state n set mark) Start p h e = absurd (omega arith)
+sound-step (header r n q) (Edges Right) p h e = clash (cc)
+sound-step (header r n q) Pairs p h e = clash (cc)
+sound-step (header r n q) Sized p h e = clash (cc)
+sound-step (header r n q) Ended p h e = clash (cc)
+sound-step (state n set mark) Start p h e = clash (cc)
 sound-step (state n set mark) (States s q) p h e = state-sound s q p n set mark h e
-sound-step (state n set mark) (Edges s) p h e = absurd (omega arith)
-sound-step (state n set mark) Pairs p h e = absurd (omega arith)
-sound-step (state n set mark) Sized p h e = absurd (omega arith)
-sound-step (state n set mark) Ended p h e = absurd (omega arith)
-sound-step (edge from tag kind i to) Start p h e = absurd (omega arith)
-sound-step (edge from tag kind i to) (States s q) p h e = absurd (omega arith)
+sound-step (state n set mark) (Edges s) p h e = clash (cc)
+sound-step (state n set mark) Pairs p h e = clash (cc)
+sound-step (state n set mark) Sized p h e = clash (cc)
+sound-step (state n set mark) Ended p h e = clash (cc)
+sound-step (edge from tag kind i to) Start p h e = clash (cc)
+sound-step (edge from tag kind i to) (States s q) p h e = clash (cc)
 sound-step (edge from tag kind i to) (Edges s) p h e = edge-sound s p from tag kind i to h e
-sound-step (edge from tag kind i to) Pairs p h e = absurd (omega arith)
-sound-step (edge from tag kind i to) Sized p h e = absurd (omega arith)
-sound-step (edge from tag kind i to) Ended p h e = absurd (omega arith)
-sound-step (pair a b) Start p h e = absurd (omega arith)
-sound-step (pair a b) (States s q) p h e = absurd (omega arith)
-sound-step (pair a b) (Edges Left) p h e = absurd (omega arith)
+sound-step (edge from tag kind i to) Pairs p h e = clash (cc)
+sound-step (edge from tag kind i to) Sized p h e = clash (cc)
+sound-step (edge from tag kind i to) Ended p h e = clash (cc)
+sound-step (pair a b) Start p h e = clash (cc)
+sound-step (pair a b) (States s q) p h e = clash (cc)
+sound-step (pair a b) (Edges Left) p h e = clash (cc)
 sound-step (pair a b) (Edges Right) p h e = rw (unpaired_records h) at (pair-sound p a b (unpaired_unsized h) e)
 sound-step (pair a b) Pairs p h e = pair-sound p a b h e
-sound-step (pair a b) Sized p h e = absurd (omega arith)
-sound-step (pair a b) Ended p h e = absurd (omega arith)
-sound-step (history size) Start p h e = absurd (omega arith)
-sound-step (history size) (States s q) p h e = absurd (omega arith)
-sound-step (history size) (Edges Left) p h e = absurd (omega arith)
+sound-step (pair a b) Sized p h e = clash (cc)
+sound-step (pair a b) Ended p h e = clash (cc)
+sound-step (history size) Start p h e = clash (cc)
+sound-step (history size) (States s q) p h e = clash (cc)
+sound-step (history size) (Edges Left) p h e = clash (cc)
 sound-step (history size) (Edges Right) p h e = rw (unpaired_records h) at (history-sound p size (unpaired_unsized h) e)
 sound-step (history size) Pairs p h e = history-sound p size h e
-sound-step (history size) Sized p h e = absurd (omega arith)
-sound-step (history size) Ended p h e = absurd (omega arith)
-sound-step end Start p h e = absurd (omega arith)
-sound-step end (States s q) p h e = absurd (omega arith)
-sound-step end (Edges Left) p h e = absurd (omega arith)
-sound-step end (Edges Right) p h e = rw (unpaired_records h) at (end-sound p (unpaired_unsized h))
-sound-step end Pairs p h e = end-sound p h
-sound-step end Sized p h e = record { sound = h; exact = ended_records p.task }
-sound-step end Ended p h e = absurd (omega arith)
+sound-step (history size) Sized p h e = clash (cc)
+sound-step (history size) Ended p h e = clash (cc)
+sound-step end Start p h e = clash (cc)
+sound-step end (States s q) p h e = clash (cc)
+sound-step end (Edges Left) p h e = clash (cc)
+sound-step end (Edges Right) p h e = rw (unpaired_records h) at (end-sound p (unpaired_unsized h) e)
+sound-step end Pairs p h e = end-sound p h e
+sound-step end Sized p {now} h e = rw (ended-as p now e) (record { sound = h; exact = ended_records p.task })
+sound-step end Ended p h e = clash (cc)
 
 pub sound_run : {file rest : List ℕ} {p : Progress} → Run file p rest → Sound p
 unfolding at_start no_task
@@ -474,23 +479,24 @@ exact_run {rest = rest} (onward {p = p} x run e) =
 
 -- ── A task that is read is one that a file can hold, and the file is its bytes ──
 
-pub read_writable : (file : List ℕ) → (read_task file).answer ≡ Read → Writable (read_task file).task
+pub read_writable : (file : List ℕ) {t : Task} → read_task file ≡ Ok t → Writable t
 read_writable file e =
     let w = read_halt file e in
     rw w.3 (settled_writable (subst (λ (stage : Stage). SoundAt stage w.0.task) w.2 (sound_run w.1)))
 
-pub read-bytes : (file : List ℕ) → (read_task file).answer ≡ Read → file ≡ encode_task (read_task file).task
+pub read-bytes : (file : List ℕ) {t : Task} → read_task file ≡ Ok t → file ≡ encode_task t
 unfolding encode_task
-read-bytes file e =
-    let w = read_halt file e in
-    exact_run w.1 ∙ rw (w.2, w.3, append-nil)
+read-bytes file {t} e = let w = read_halt file e in at w.0 w.1 w.2 w.3
+  where
+    at : (p : Progress) → Run file p [] → p.stage ≡ Ended → t ≡ p.task → file ≡ encode_task t
+    at p run stage task = exact_run run ∙ rw (stage, task, append-nil)
 
-pub read-valid : (file : List ℕ) → (read_task file).answer ≡ Read → Valid max_registers (read_task file).task
+pub read-valid : (file : List ℕ) {t : Task} → read_task file ≡ Ok t → Valid max_registers t
 read-valid file e = (read_writable file e).valid
 
 -- Its counts keep to 01's limits: with them an edge's number is a byte, and the count of positions fits four bytes.
-pub read_limits : (file : List ℕ) → (read_task file).answer ≡ Read → (s : Side)
-    → ((model_of (read_task file).task s).state_count ≤ max_states) × ((model_of (read_task file).task s).edge_count ≤ max_edges)
+pub read_limits : (file : List ℕ) {t : Task} → read_task file ≡ Ok t → (s : Side)
+    → ((model_of t s).state_count ≤ max_states) × ((model_of t s).edge_count ≤ max_edges)
 read_limits file e s = at s (read_writable file e)
   where
     at : (s : Side) {t : Task} → Writable t
@@ -499,8 +505,8 @@ read_limits file e s = at s (read_writable file e)
     at Right w = omega (arith, w.valid.right, w.right)
 
 -- Its tags are 01's: "a tag 0 to 31".
-pub read-tags : (file : List ℕ) → (read_task file).answer ≡ Read → (s : Side) (k : ℕ)
-    → k < (model_of (read_task file).task s).edge_count
-    → (edge_of (model_of (read_task file).task s) k).tag < tag_count
+pub read-tags : (file : List ℕ) {t : Task} → read_task file ≡ Ok t → (s : Side) (k : ℕ)
+    → k < (model_of t s).edge_count
+    → (edge_of (model_of t s) k).tag < tag_count
 read-tags file e Left = (read_writable file e).left.tags
 read-tags file e Right = (read_writable file e).right.tags

@@ -18,34 +18,42 @@ use Rattle.fra.specs.declared.Side.{Side}
 use Rattle.fra.specs.declared.Side.TheVariants.{Left, Right}
 use Rattle.task.specs.Records.{Record, header, state, edge, pair, history, end, headers, earlier, registers, states, start, states_read, edges_read, last_edge, set_in, Complete, NoHistory, NoEnd, Allowed}
 use Rattle.task.specs.TaskFile
-use Rattle.task.specs.TaskFile.{max_registers, with_model, headed, with_header, with_state, with_pair, with_history, after_state, header_at, state_at, edge_at, pair_at, history_at, end_at, header_refusal, state_refusal, edge_refusal, pair_refusal, history_refusal, refuse}
+use Rattle.task.specs.TaskFile.{max_registers, with_model, headed, with_header, with_state, with_pair, with_history, after_state, header_at, state_at, edge_at, pair_at, history_at, end_at, header_refusal, state_refusal, edge_refusal, pair_refusal, history_refusal}
 use Rattle.task.specs.declared.Stage.{Stage}
 use Rattle.task.specs.declared.Stage.TheVariants.{Start, States, Edges, Pairs, Sized, Ended}
 use Rattle.task.specs.declared.Progress.{Progress}
-use Rattle.task.specs.declared.Stepped.{Stepped}
-use Rattle.task_laws.proofs.RunsAndHalts.{step_at, decided, decided-refusal, decided_passes}
+use Rattle.task.specs.declared.Refusal.{Refusal}
+use Rattle.task.specs.declared.Refusal.TheVariants.{Misplaced}
+use Rattle.std.specs.Prelude.{Result, Ok, Err}
+use Rattle.fra_laws.proofs.Tests.{clash}
+use Rattle.task_laws.proofs.RunsAndHalts.{step_at, decided, decided_passes}
 use Rattle.task_laws.proofs.Checks.{header-fits, state-fits, edge-fits, PairFits, pair_fits}
 use Rattle.task_laws.proofs.ReadValid.{Finished, pair-places, SoundAt, unpaired_finished, model_of-with_model}
 use Rattle.task_laws.proofs.Ties.{Written, Paired, written-headed, written-with_state, written-with_edge, paired_none, paired-other, paired-set, headers_of, ModelsOnly, AfterSize, TiedAt, Tied, not_more, only_more, shape, Beside, Says}
 use Rattle.task_laws.proofs.HeldAtStart.{held_said}
-use Rattle.task_laws.proofs.Judging.{Judged, misplaced, header-judged, state-judged, edge-judged, rising_above, pair-judged, history-judged, end-judged}
+use Rattle.task_laws.proofs.Judging.{Judged, obeys, breaks, misplaced, header-judged, state-judged, edge-judged, rising_above, pair-judged, history-judged, end-judged}
 
 -- ── What is correct ──
 
 -- what a record does is correct: its refusal, and if there is none, the progress after it
-pub record Correct (l : List Record) (x : Record) (s : Stepped) : Type 0 where
-  pub judged : Judged l x s.refusal
-  pub tied : s.refusal ≡ 0 → Tied (x ∷ l) s.progress
+pub record Correct (l : List Record) (x : Record) (r : Result Progress Refusal) : Type 0 where
+  pub judged : Judged l x r
+  pub tied : {after : Progress} → r ≡ Ok after → Tied (x ∷ l) after
 
 -- a record that is not allowed at its place
-out_of-place : {l : List Record} {x : Record} (p : Progress) → (Allowed l x → ⊥) → Correct l x (refuse 3 p)
-out_of-place {l} {x} p out = record { judged = misplaced l x out; tied = λ e. absurd (omega arith) }
+out_of-place : {l : List Record} {x : Record} → (Allowed l x → ⊥) → Correct l x (Err Misplaced)
+out_of-place {l} {x} out = record { judged = misplaced l x out; tied = λ e. clash (cc) }
 
--- a record whose check gives n
-checked : {l : List Record} {x : Record} (n : ℕ) (p after : Progress) → Judged l x n → (n ≡ 0 → Tied (x ∷ l) after)
-    → Correct l x (decided n p after)
-checked {l} {x} n p after h t =
-    record { judged = rw (decided-refusal n p after) h; tied = λ e. decided_passes (Tied (x ∷ l)) n p after e t }
+-- a record whose check gives c
+checked : {l : List Record} {x : Record} (c : Result (Unit {0}) Refusal) (after : Progress) → Judged l x c
+    → (c ≡ Ok tt → Tied (x ∷ l) after)
+    → Correct l x (decided c after)
+checked {l} {x} c after h t =
+    record { judged = judged h; tied = λ e. decided_passes (Tied (x ∷ l)) c after e t }
+  where
+    judged : Judged l x c → Judged l x (decided c after)
+    judged (obeys a e all) = obeys after (rw e) all
+    judged (breaks rule e b first) = breaks rule (rw e) b first
 
 -- ── Each record in its place ──
 
@@ -63,7 +71,7 @@ header_correct : (s : Side) (l : List Record) (p : Progress) (r n q : ℕ) → A
     → Correct l (header r n q) (header_at s p (r ∷ n ∷ q ∷ []))
 unfolding header_at with_header headers states_read states earlier
 header_correct s l p r n q allowed count only before =
-    checked (header_refusal r n q) p _ (header-judged l r n q allowed)
+    checked (header_refusal r n q) _ (header-judged l r n q allowed)
     (λ z.
     let f = header-fits r n q z in
     record {
@@ -94,7 +102,7 @@ state_correct : (s : Side) (q : ℕ) (p : Progress) (l : List Record) (n set mar
     → Correct l (state n set mark) (state_at s q p (n ∷ set ∷ mark ∷ []))
 unfolding state_at after_state with_state Allowed headers states_read states earlier
 state_correct s q p l n set mark h t =
-    checked (state_refusal m q n set mark) p _
+    checked (state_refusal m q n set mark) _
     (state-judged l m q n set mark t.at_stage.read t.says.model.registers (omega arith))
     (λ z. after (eqb (q + 1) m.state_count) refl (state-fits m q n set mark z).number_due)
   where
@@ -139,7 +147,7 @@ edge_correct : (s : Side) (p : Progress) (l : List Record) (from tag kind i to :
 unfolding edge_at Allowed headers states_read states earlier
 edge_correct s p l from tag kind i to h t =
     let at = t.at_stage in
-    checked (edge_refusal m (from ∷ tag ∷ kind ∷ i ∷ to ∷ [])) p _
+    checked (edge_refusal m (from ∷ tag ∷ kind ∷ i ∷ to ∷ [])) _
     (edge-judged l m from tag kind i to t.says.model h.model
     (omega (arith, some-header s), at.complete, at.only.no_pair, at.only.no_history, at.only.no_end))
     (λ z.
@@ -164,7 +172,7 @@ pair_correct : (p : Progress) (l : List Record) (a b : ℕ) → Finished p.task 
     → Correct l (pair a b) (pair_at p (a ∷ b ∷ []))
 unfolding pair_at with_pair Allowed headers states_read states earlier registers start edges_read set_in last_edge
 pair_correct p l a b h allowed t =
-    checked (pair_refusal p.task a b) p _
+    checked (pair_refusal p.task a b) _
     (pair-judged l p.task a b t.beside.left t.model t.beside.paired allowed)
     (λ z.
     record {
@@ -197,7 +205,7 @@ history_correct : (p : Progress) (l : List Record) (n : ℕ) → Finished p.task
     → Correct l (history n) (history_at p (n ∷ []))
 unfolding history_at with_history Allowed headers states_read states earlier registers start edges_read set_in last_edge
 history_correct p l n h allowed t =
-    checked (history_refusal p.task n) p _
+    checked (history_refusal p.task n) _
     (history-judged l p.task n (held_said h t.beside.left t.model t.beside.paired) allowed)
     (λ z.
     record {
@@ -219,27 +227,24 @@ history_correct p l n h allowed t =
 end_correct : (p : Progress) (l : List Record) → Allowed l end → Says Right l p.task → Correct l end (end_at p)
 unfolding end_at Allowed headers states_read states earlier registers start edges_read set_in last_edge
 end_correct p l allowed t =
+    checked (Ok tt) _ (end-judged l allowed)
+    (λ z.
     record {
-      judged = end-judged l allowed;
-      tied = λ e.
+      at_stage = record { side = allowed.0; complete = allowed.1; last = (l, refl) };
+      says =
           record {
-            at_stage = record { side = allowed.0; complete = allowed.1; last = (l, refl) };
-            says =
-                record {
-                  model = t.model;
-                  beside =
-                      record { left = t.beside.left; paired = paired-other end (λ d. omega arith) t.beside.paired };
-                };
+            model = t.model;
+            beside = record { left = t.beside.left; paired = paired-other end (λ d. omega arith) t.beside.paired };
           };
-    }
+    })
 
 -- ── Each record at each stage ──
 
 -- a header after others
-late_header : {l : List Record} {r n q : ℕ} (p : Progress) → 1 ≤ headers l → (headers l ≡ 1 → Complete l → ⊥)
-    → Correct l (header r n q) (refuse 3 p)
+late_header : {l : List Record} {r n q : ℕ} → 1 ≤ headers l → (headers l ≡ 1 → Complete l → ⊥)
+    → Correct l (header r n q) (Err Misplaced)
 unfolding Allowed headers
-late_header {l} {r} {n} {q} p later other = out_of-place p at
+late_header {l} {r} {n} {q} later other = out_of-place at
   where
     at : Allowed l (header r n q) → ⊥
     at (inl e) = omega (arith, ap headers e)
@@ -267,53 +272,53 @@ pub step_correct : (x : Record) (stage : Stage) (p : Progress) (l : List Record)
 unfolding TaskFile.header TaskFile.state TaskFile.edge TaskFile.pair TaskFile.history TaskFile.end Allowed headers states
 step_correct (header r n q) Start p l h t =
     header_correct Left l p r n q (inl t.at_stage) (omega (arith, ap headers t.at_stage)) (nothing_read t.at_stage) tt
-step_correct (header r n q) (States s k) p l h t = late_header p (omega (arith, some-header s)) (λ one c. omega arith)
+step_correct (header r n q) (States s k) p l h t = late_header (omega (arith, some-header s)) (λ one c. omega arith)
 step_correct (header r n q) (Edges Left) p l h t =
     header_correct Right l p r n q (inr (t.at_stage.side, t.at_stage.complete)) (omega arith) t.at_stage.only
     t.says.model
-step_correct (header r n q) (Edges Right) p l h t = late_header p (omega arith) (λ one c. omega arith)
-step_correct (header r n q) Pairs p l h t = late_header p (omega arith) (λ one c. omega arith)
-step_correct (header r n q) Sized p l h t = late_header p (omega arith) (λ one c. omega arith)
-step_correct (header r n q) Ended p l h t = late_header p (omega arith) (λ one c. omega arith)
-step_correct (state n set mark) Start p l h t = out_of-place p (λ a. omega (arith, a, ap states t.at_stage))
+step_correct (header r n q) (Edges Right) p l h t = late_header (omega arith) (λ one c. omega arith)
+step_correct (header r n q) Pairs p l h t = late_header (omega arith) (λ one c. omega arith)
+step_correct (header r n q) Sized p l h t = late_header (omega arith) (λ one c. omega arith)
+step_correct (header r n q) Ended p l h t = late_header (omega arith) (λ one c. omega arith)
+step_correct (state n set mark) Start p l h t = out_of-place (λ a. omega (arith, a, ap states t.at_stage))
 step_correct (state n set mark) (States s q) p l h t = state_correct s q p l n set mark h t
-step_correct (state n set mark) (Edges s) p l h t = out_of-place p (λ a. omega (arith, a))
-step_correct (state n set mark) Pairs p l h t = out_of-place p (λ a. omega (arith, a))
-step_correct (state n set mark) Sized p l h t = out_of-place p (λ a. omega (arith, a))
-step_correct (state n set mark) Ended p l h t = out_of-place p (λ a. omega (arith, a))
-step_correct (edge from tag kind i to) Start p l h t = out_of-place p (λ a. omega (arith, a.0, ap headers t.at_stage))
-step_correct (edge from tag kind i to) (States s q) p l h t = out_of-place p (λ a. omega (arith, a.1))
+step_correct (state n set mark) (Edges s) p l h t = out_of-place (λ a. omega (arith, a))
+step_correct (state n set mark) Pairs p l h t = out_of-place (λ a. omega (arith, a))
+step_correct (state n set mark) Sized p l h t = out_of-place (λ a. omega (arith, a))
+step_correct (state n set mark) Ended p l h t = out_of-place (λ a. omega (arith, a))
+step_correct (edge from tag kind i to) Start p l h t = out_of-place (λ a. omega (arith, a.0, ap headers t.at_stage))
+step_correct (edge from tag kind i to) (States s q) p l h t = out_of-place (λ a. omega (arith, a.1))
 step_correct (edge from tag kind i to) (Edges s) p l h t = edge_correct s p l from tag kind i to h t
-step_correct (edge from tag kind i to) Pairs p l h t = out_of-place p (λ a. let w = t.at_stage.some_pair in a.2 w.0 w.1 w.2)
-step_correct (edge from tag kind i to) Sized p l h t = out_of-place p (λ a. after-size t.at_stage a.3)
-step_correct (edge from tag kind i to) Ended p l h t = out_of-place p (λ a. after-end t.at_stage.last.1 a.4)
-step_correct (pair a b) Start p l h t = out_of-place p (λ a. omega (arith, a.0, ap headers t.at_stage))
-step_correct (pair a b) (States s q) p l h t = out_of-place p (λ a. omega (arith, a.1))
-step_correct (pair a b) (Edges Left) p l h t = out_of-place p (λ a. omega (arith, a.0))
+step_correct (edge from tag kind i to) Pairs p l h t = out_of-place (λ a. let w = t.at_stage.some_pair in a.2 w.0 w.1 w.2)
+step_correct (edge from tag kind i to) Sized p l h t = out_of-place (λ a. after-size t.at_stage a.3)
+step_correct (edge from tag kind i to) Ended p l h t = out_of-place (λ a. after-end t.at_stage.last.1 a.4)
+step_correct (pair a b) Start p l h t = out_of-place (λ a. omega (arith, a.0, ap headers t.at_stage))
+step_correct (pair a b) (States s q) p l h t = out_of-place (λ a. omega (arith, a.1))
+step_correct (pair a b) (Edges Left) p l h t = out_of-place (λ a. omega (arith, a.0))
 step_correct (pair a b) (Edges Right) p l h t =
     let at = t.at_stage in
     pair_correct p l a b (unpaired_finished h) (at.side, at.complete, at.only.no_history, at.only.no_end) t.says
 step_correct (pair a b) Pairs p l h t =
     let at = t.at_stage in
     pair_correct p l a b h.finished (at.side, at.complete, at.no_history, at.no_end) t.says
-step_correct (pair a b) Sized p l h t = out_of-place p (λ a. after-size t.at_stage a.2)
-step_correct (pair a b) Ended p l h t = out_of-place p (λ a. after-end t.at_stage.last.1 a.3)
-step_correct (history n) Start p l h t = out_of-place p (λ a. omega (arith, a.0, ap headers t.at_stage))
-step_correct (history n) (States s q) p l h t = out_of-place p (λ a. omega (arith, a.1))
-step_correct (history n) (Edges Left) p l h t = out_of-place p (λ a. omega (arith, a.0))
+step_correct (pair a b) Sized p l h t = out_of-place (λ a. after-size t.at_stage a.2)
+step_correct (pair a b) Ended p l h t = out_of-place (λ a. after-end t.at_stage.last.1 a.3)
+step_correct (history n) Start p l h t = out_of-place (λ a. omega (arith, a.0, ap headers t.at_stage))
+step_correct (history n) (States s q) p l h t = out_of-place (λ a. omega (arith, a.1))
+step_correct (history n) (Edges Left) p l h t = out_of-place (λ a. omega (arith, a.0))
 step_correct (history n) (Edges Right) p l h t =
     let at = t.at_stage in
     history_correct p l n (unpaired_finished h) (at.side, at.complete, at.only.no_history, at.only.no_end) t.says
 step_correct (history n) Pairs p l h t =
     let at = t.at_stage in
     history_correct p l n h.finished (at.side, at.complete, at.no_history, at.no_end) t.says
-step_correct (history n) Sized p l h t = out_of-place p (λ a. after-size t.at_stage a.2)
-step_correct (history n) Ended p l h t = out_of-place p (λ a. after-end t.at_stage.last.1 a.3)
-step_correct end Start p l h t = out_of-place p (λ a. omega (arith, a.0, ap headers t.at_stage))
-step_correct end (States s q) p l h t = out_of-place p (λ a. omega (arith, a.1))
-step_correct end (Edges Left) p l h t = out_of-place p (λ a. omega (arith, a.0))
+step_correct (history n) Sized p l h t = out_of-place (λ a. after-size t.at_stage a.2)
+step_correct (history n) Ended p l h t = out_of-place (λ a. after-end t.at_stage.last.1 a.3)
+step_correct end Start p l h t = out_of-place (λ a. omega (arith, a.0, ap headers t.at_stage))
+step_correct end (States s q) p l h t = out_of-place (λ a. omega (arith, a.1))
+step_correct end (Edges Left) p l h t = out_of-place (λ a. omega (arith, a.0))
 step_correct end (Edges Right) p l h t =
     end_correct p l (t.at_stage.side, t.at_stage.complete, t.at_stage.only.no_end) t.says
 step_correct end Pairs p l h t = end_correct p l (t.at_stage.side, t.at_stage.complete, t.at_stage.no_end) t.says
 step_correct end Sized p l h t = end_correct p l (t.at_stage.side, t.at_stage.complete, t.at_stage.no_end) t.says
-step_correct end Ended p l h t = out_of-place p (λ a. after-end t.at_stage.last.1 a.2)
+step_correct end Ended p l h t = out_of-place (λ a. after-end t.at_stage.last.1 a.2)

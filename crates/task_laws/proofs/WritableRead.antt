@@ -25,13 +25,13 @@ use Rattle.fra.specs.declared.Side.{Side}
 use Rattle.fra.specs.declared.Side.TheVariants.{Left, Right}
 use Rattle.task.specs.Records.{Record, header, state, edge, pair, history, end, encode}
 use Rattle.task.specs.TaskFile
-use Rattle.task.specs.TaskFile.{max_registers, max_states, max_edges, next, with_model, headed, with_header, with_state, edge_of_body, rises, with_edge, with_pair, with_history, after_state, header_at, state_at, edge_at, pair_at, history_at, end_at, header_refusal, state_refusal, edge_refusal, pair_refusal, history_refusal, at_start, no_task, read_task}
+use Rattle.task.specs.TaskFile.{max_registers, max_states, max_edges, with_model, headed, with_header, with_state, edge_of_body, rises, with_edge, with_pair, with_history, after_state, header_at, state_at, edge_at, pair_at, history_at, end_at, header_refusal, state_refusal, edge_refusal, pair_refusal, history_refusal, at_start, no_task, read_task}
 use Rattle.task.specs.TaskBytes.{Writable}
 use Rattle.task.specs.declared.Stage.{Stage}
 use Rattle.task.specs.declared.Stage.TheVariants.{Start, States, Edges, Pairs, Sized, Ended}
 use Rattle.task.specs.declared.Progress.{Progress}
-use Rattle.task.specs.declared.Stepped.{Stepped}
-use Rattle.task.specs.declared.Answer.TheVariants.{Read}
+use Rattle.task.specs.declared.Refusal.{Refusal}
+use Rattle.std.specs.Prelude.{Result, Ok}
 use Rattle.fra_laws.proofs.Tests.{passes_unless, fails_unless}
 use Rattle.fra_laws.proofs.KindNumbers.{kind_of-number}
 use Rattle.fra_laws.proofs.Legal.{Legal, legal_facts}
@@ -50,16 +50,12 @@ abbrev Reachable : Stage → Task → Type 0
 Reachable stage t = (rest : List ℕ) → (file : List ℕ) × Run file (record { stage = stage; task = t }) rest
 
 -- a record whose check refuses nothing leads on
-reach : (x : Record) (n : ℕ) (stage : Stage) (t : Task) (after : Progress)
-    → step_at x stage (record { stage = stage; task = t }) ≡ decided n (record { stage = stage; task = t }) after → n ≡ 0
+reach : (x : Record) (c : Result (Unit {0}) Refusal) (stage : Stage) (t : Task) (after : Progress)
+    → step_at x stage (record { stage = stage; task = t }) ≡ decided c after → c ≡ Ok tt
     → Reachable stage t → Reachable after.stage after.task
-reach x n stage t after e z h rest =
-    let passes : step_at x stage (record { stage = stage; task = t }) ≡ next after = e ∙ rw z in
-    let w = h (encode x ++ rest) in (
-      w.0,
-      subst (λ (s : Stepped). Run w.0 s.progress rest) passes
-          (onward x w.1 (ap (λ (s : Stepped). s.refusal) passes)),
-    )
+reach x c stage t after e z h rest =
+    let w = h (encode x ++ rest) in
+    (w.0, onward x w.1 (e ∙ rw z))
 
 -- what holds at first and is kept n times
 in_a_row : (P : ℕ → Type 0) (n : ℕ) → P 0 → ((k : ℕ) → k < n → P k → P (suc k)) → P n
@@ -281,9 +277,9 @@ history-reached t n f (inr h) = reach (history n) (history_refusal t n) Pairs t 
 
 end-reached : (t : Task) → Unended t → Reachable Ended t
 unfolding TaskFile.end end_at
-end-reached t (inl (inl h)) = reach end 0 (Edges Right) t _ refl refl h
-end-reached t (inl (inr h)) = reach end 0 Pairs t _ refl refl h
-end-reached t (inr h) = reach end 0 Sized t _ refl refl h
+end-reached t (inl (inl h)) = reach end (Ok tt) (Edges Right) t _ refl refl h
+end-reached t (inl (inr h)) = reach end (Ok tt) Pairs t _ refl refl h
+end-reached t (inr h) = reach end (Ok tt) Sized t _ refl refl h
 
 -- a task's models, with these states, partners and history size to start from, stated or not
 abbrev started : Task → ℕ → ℕ → List ℕ → ℕ → Bool → Task
@@ -378,7 +374,7 @@ module _ {t : Task} (writable : Writable t) where
       at false e =
           inl (subst (λ (u : Task). PairsLaid u) (ap₂ resized (sym (writable.valid.unstated e)) (sym e)) h)
 
-  pub writable_read : (file : List ℕ) × (read_task file ≡ record { answer = Read; task = t })
+  pub writable_read : (file : List ℕ) × (read_task file ≡ Ok t)
   writable_read =
       let paired = in_a_row (λ k. PairsLaid (pairs_up_to k)) max_registers (inl models_reached) one_pair in
       let w = end-reached t (size-reached (rw pairs-all at paired)) [] in

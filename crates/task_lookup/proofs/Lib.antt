@@ -1,3 +1,2 @@
 -- Lemmas that the proofs of the functions share.
 pub mod EveryRegister
-pub mod Strings

@@ -6,38 +6,19 @@ ghost use Rattle.fra.specs.Lists.{any, below};
 pub fn at(s: &[u8], i: usize) -> u8
     ensures { result ≡ get_or s.now i 0 }
 {
-    if i < s.len() { s[i] } else { 0 }
+    s.get(i).copied().unwrap_or(0)
 }
 
 // The strict lexicographic order of two strings.
 pub fn below(a: &[u8], b: &[u8]) -> bool
     ensures { result ≡ below a.now b.now }
 {
-    let mut i = 0;
-    while i < a.len() {
-        if b.len() <= i {
-            return false;
-        }
-        let x = a[i];
-        let y = b[i];
-        if x != y {
-            return x < y;
-        }
-        i += 1;
-    }
-    a.len() < b.len()
+    a < b
 }
 
 // The byte stands in the string.
 pub fn contains(s: &[u8], byte: u8) -> bool
     ensures { result ≡ any (eqb byte) s.now }
 {
-    let mut i = 0;
-    while i < s.len() {
-        if s[i] == byte {
-            return true;
-        }
-        i += 1;
-    }
-    false
+    s.contains(&byte)
 }

@@ -16,23 +16,24 @@ pub fn model_of(t: Task, side: Side) -> Model
 }
 
 // The register set of a state, empty past the states.
+#[tactic(auto, unfolding(fra::specs::Model::set_of))]
 pub fn set_of(m: Model, q: u8) -> u8
     ensures { result ≡ set_of m q }
 {
-    if q < Model::STATES {
-        m.states[q as usize].set
-    } else {
-        0
-    }
+    m.states
+        .get(usize::from(q))
+        .copied()
+        .unwrap_or(Model::NO_STATE)
+        .set
 }
 
 // The edge with this number, or what stands past the edges.
+#[tactic(auto, unfolding(fra::specs::Model::edge_of))]
 pub fn edge_of(m: Model, k: u8) -> Edge
     ensures { result ≡ edge_of m k }
 {
-    if k < Model::EDGES {
-        m.edges[k as usize]
-    } else {
-        Model::NO_EDGE
-    }
+    m.edges
+        .get(usize::from(k))
+        .copied()
+        .unwrap_or(Model::NO_EDGE)
 }

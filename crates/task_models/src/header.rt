@@ -3,36 +3,37 @@ ghost use Rattle.std.specs.Prelude.{◌≡◌};
 ghost use Rattle.task.specs.TaskFile.{header_refusal, headed, with_header, header_at, header};
 
 use fra::{Model, Position, Side, Task};
-use task::{Progress, Stage, Stepped};
+use task::{Progress, Refusal, Stage};
 use task_lookup::bytes;
 
-fn refusal(registers: u8, states: u8, start: u8) -> u8
+#[tactic(auto, unfolding(task::specs::TaskFile::header_refusal))]
+fn admit(registers: u8, states: u8, start: u8) -> Result<(), Refusal>
     ensures { result ≡ header_refusal registers states start }
 {
     if Model::REGISTERS < registers || states == 0 || Model::STATES < states || states <= start {
-        4
+        Err(Refusal::BadHeader)
     } else {
-        0
+        Ok(())
     }
 }
 
 // A model with nothing but its header.
+#[tactic(auto, unfolding(task::specs::TaskFile::headed))]
 pub fn headed(registers: u8, states: u8, start: u8) -> Model
     ensures { result ≡ headed registers states start }
 {
-    let no_state = Model::NO_STATE;
-    let no_edge = Model::NO_EDGE;
     Model {
         registers,
         start,
         state_count: states,
         edge_count: 0,
-        states: [no_state; 16],
-        edges: [no_edge; 64],
+        states: [Model::NO_STATE; 16],
+        edges: [Model::NO_EDGE; 64],
     }
 }
 
 // The header of a side's model; the right one's fixes the start position, still without pairs.
+#[tactic(auto, unfolding(task::specs::TaskFile::with_header))]
 fn with_header(t: Task, side: Side, m: Model) -> Task
     ensures { result ≡ with_header t side m }
 {
@@ -40,41 +41,36 @@ fn with_header(t: Task, side: Side, m: Model) -> Task
     match side {
         Side::Left => u.left = m,
         Side::Right => {
-            let left = t.left;
-            let start = Position::unmatched(left.start, m.start);
             u.right = m;
-            u.start = start;
+            u.start = Position::unmatched(t.left.start, m.start);
         }
     }
     u
 }
 
 // A header of this side, where one is due.
-fn step_of(side: Side, p: Progress, body: &[u8]) -> Stepped
+#[tactic(auto, unfolding(task::specs::TaskFile::header_at))]
+fn step_of(side: Side, p: Progress, body: &[u8]) -> Result<Progress, Refusal>
     ensures { result ≡ header_at side p body.now }
 {
     let registers = bytes::at(body, 0);
     let states = bytes::at(body, 1);
     let start = bytes::at(body, 2);
-    let n = refusal(registers, states, start);
-    if n != 0 {
-        return task_progress::refuse(n, p);
-    }
-    let t = with_header(p.task, side, headed(registers, states, start));
-    task_progress::next(Stage::States(side, 0), t)
+    admit(registers, states, start)?;
+    Ok(Progress {
+        stage: Stage::States(side, 0),
+        task: with_header(p.task, side, headed(registers, states, start)),
+    })
 }
 
 // It stands first, or after the left model.
-pub fn step(p: Progress, body: &[u8]) -> Stepped
+#[tactic(auto, unfolding(task::specs::TaskFile::header))]
+pub fn step(p: Progress, body: &[u8]) -> Result<Progress, Refusal>
     ensures { result ≡ header p.stage p body.now }
 {
-    let stage = p.stage;
-    match stage {
+    match p.stage {
         Stage::Start => step_of(Side::Left, p, body),
-        Stage::Edges(side) => match side {
-            Side::Left => step_of(Side::Right, p, body),
-            Side::Right => task_progress::refuse(3, p),
-        },
-        _ => task_progress::refuse(3, p),
+        Stage::Edges(Side::Left) => step_of(Side::Right, p, body),
+        _ => Err(Refusal::Misplaced),
     }
 }

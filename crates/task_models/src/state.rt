@@ -4,30 +4,29 @@ ghost use Rattle.task.specs.TaskFile.{max_states, state_refusal, with_state, aft
 ghost use Rattle.task_progress.specs.Due.{Due};
 
 use fra::{Model, Side, State};
-use task::{Progress, Stage, Stepped};
+use task::{Progress, Refusal, Stage};
 use task_lookup::{bytes, models};
+use task_progress::with_model;
 
 // The set has a register past the count.
 fn overruns(set: u8, registers: u8) -> bool
     ensures { result ≡ leb (2 ^ registers) set }
 {
-    if registers < 8 {
-        (set >> registers) != 0
-    } else {
-        false
-    }
+    registers < 8 && (set >> registers) != 0
 }
 
-fn refusal(m: Model, due: u8, number: u8, set: u8, mark: u8) -> u8
+#[tactic(auto, unfolding(task::specs::TaskFile::state_refusal))]
+fn admit(m: Model, due: u8, number: u8, set: u8, mark: u8) -> Result<(), Refusal>
     ensures { result ≡ state_refusal m due number set mark }
 {
     if number != due || overruns(set, m.registers) || 1 < mark {
-        5
+        Err(Refusal::BadState)
     } else {
-        0
+        Ok(())
     }
 }
 
+#[tactic(auto, unfolding(task::specs::TaskFile::with_state))]
 fn with_state(m: Model, q: u8, set: u8, mark: u8) -> Model
     requires { q < max_states }
     ensures { result ≡ with_state m q set mark }
@@ -38,6 +37,7 @@ fn with_state(m: Model, q: u8, set: u8, mark: u8) -> Model
 }
 
 // After state q the next one is due, or the edges.
+#[tactic(auto, unfolding(task::specs::TaskFile::after_state))]
 fn after(m: Model, side: Side, q: u8) -> Stage
     requires { q < m.state_count }
     ensures { result ≡ after_state m side q }
@@ -50,7 +50,8 @@ fn after(m: Model, side: Side, q: u8) -> Stage
 }
 
 // A state of this side, where this one is due.
-fn step_of(side: Side, due: u8, p: Progress, body: &[u8]) -> Stepped
+#[tactic(auto, unfolding(task::specs::TaskFile::state_at))]
+fn step_of(side: Side, due: u8, p: Progress, body: &[u8]) -> Result<Progress, Refusal>
     requires { Due (Stage.States side due) p.task }
     ensures { result ≡ state_at side due p body.now }
 {
@@ -58,22 +59,21 @@ fn step_of(side: Side, due: u8, p: Progress, body: &[u8]) -> Stepped
     let m = models::model_of(t, side);
     let set = bytes::at(body, 1);
     let mark = bytes::at(body, 2);
-    let n = refusal(m, due, bytes::at(body, 0), set, mark);
-    if n != 0 {
-        return task_progress::refuse(n, p);
-    }
-    let u = task_progress::with_model(t, side, with_state(m, due, set, mark));
-    task_progress::next(after(m, side, due), u)
+    admit(m, due, bytes::at(body, 0), set, mark)?;
+    Ok(Progress {
+        stage: after(m, side, due),
+        task: with_model(t, side, with_state(m, due, set, mark)),
+    })
 }
 
 // It stands where a state is due.
-pub fn step(p: Progress, body: &[u8]) -> Stepped
+#[tactic(auto, unfolding(task::specs::TaskFile::state))]
+pub fn step(p: Progress, body: &[u8]) -> Result<Progress, Refusal>
     requires { Due p.stage p.task }
     ensures { result ≡ state p.stage p body.now }
 {
-    let stage = p.stage;
-    let Stage::States(side, due) = stage else {
-        return task_progress::refuse(3, p);
+    let Stage::States(side, due) = p.stage else {
+        return Err(Refusal::Misplaced);
     };
     step_of(side, due, p, body)
 }

@@ -5,7 +5,7 @@ ghost use Rattle.task.specs.TaskFile.{history_refusal, with_history, history_at,
 
 use crate::places::among_pairs;
 use fra::{Position, Task};
-use task::{Progress, Stage, Stepped};
+use task::{Progress, Refusal, Stage};
 use task_lookup::{bytes, models};
 
 // How many numbers the two readers hold together at the start.
@@ -18,47 +18,47 @@ fn held(t: Task) -> u8
     start.held(left, right)
 }
 
-fn refusal(t: Task, size: u8) -> u8
+#[tactic(auto, unfolding(task::specs::TaskFile::history_refusal))]
+fn admit(t: Task, size: u8) -> Result<(), Refusal>
     ensures { result ≡ history_refusal t size }
 {
     if Position::MOST_SEEN < size || size < held(t) {
-        15
+        Err(Refusal::BadHistory)
     } else {
-        0
+        Ok(())
     }
 }
 
+#[tactic(auto, unfolding(task::specs::TaskFile::with_history))]
 fn with_history(t: Task, size: u8) -> Task
     ensures { result ≡ with_history t size }
 {
-    let mut start = t.start;
-    start.history = size;
     let mut u = t;
-    u.start = start;
+    u.start.history = size;
     u.history_stated = true;
     u
 }
 
 // The history's size, where it may stand.
-fn step_of(p: Progress, body: &[u8]) -> Stepped
+#[tactic(auto, unfolding(task::specs::TaskFile::history_at))]
+fn step_of(p: Progress, body: &[u8]) -> Result<Progress, Refusal>
     ensures { result ≡ history_at p body.now }
 {
-    let t = p.task;
     let size = bytes::at(body, 0);
-    let n = refusal(t, size);
-    if n != 0 {
-        return task_progress::refuse(n, p);
-    }
-    task_progress::next(Stage::Sized, with_history(t, size))
+    admit(p.task, size)?;
+    Ok(Progress {
+        stage: Stage::Sized,
+        task: with_history(p.task, size),
+    })
 }
 
 // It stands after the right model and the pairs.
-pub fn step(p: Progress, body: &[u8]) -> Stepped
+#[tactic(auto, unfolding(task::specs::TaskFile::history))]
+pub fn step(p: Progress, body: &[u8]) -> Result<Progress, Refusal>
     ensures { result ≡ history p.stage p body.now }
 {
-    let stage = p.stage;
-    if !among_pairs(stage) {
-        return task_progress::refuse(3, p);
+    if !among_pairs(p.stage) {
+        return Err(Refusal::Misplaced);
     }
     step_of(p, body)
 }

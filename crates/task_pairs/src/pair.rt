@@ -6,20 +6,19 @@ ghost use Rattle.task.specs.TaskFile.{rising, pair_refusal, with_pair, pair_at, 
 
 use crate::places::among_pairs;
 use fra::{Model, Task, has};
-use task::{Progress, Stage, Stepped};
+use task::{Progress, Refusal, Stage};
 use task_lookup::{bytes, models};
 
 // The left register's place in the matching, and those after it, hold no pair yet.
+#[tactic(auto, unfolding(task::specs::TaskFile::rising))]
 fn rising(partners: [u8; 6], left: u8) -> bool
     requires { 1 ≤ left }
     ensures { result ≡ rising partners left }
 {
-    for i in left - 1..Model::REGISTERS {
-        if partners[i as usize] != 0 {
-            return false;
-        }
-    }
-    true
+    !partners
+        .iter()
+        .skip(usize::from(left - 1))
+        .any(|partner| 0 < *partner)
 }
 
 // The register is in the set of the model's start state.
@@ -29,57 +28,56 @@ fn held(m: Model, register: u8) -> bool
     has(models::set_of(m, m.start), register)
 }
 
-fn refusal(t: Task, left: u8, right: u8) -> u8
+#[tactic(auto, unfolding(task::specs::TaskFile::pair_refusal))]
+fn admit(t: Task, left: u8, right: u8) -> Result<(), Refusal>
     ensures { result ≡ pair_refusal t left right }
 {
-    let start = t.start;
-    let partners = start.partners;
+    let partners = t.start.partners;
     if held(t.left, left)
         && held(t.right, right)
         && rising(partners, left)
         && !bytes::contains(&partners, right)
     {
-        0
+        Ok(())
     } else {
-        10
+        Err(Refusal::BadPair)
     }
 }
 
 // A register past the last has no place in the matching.
+#[tactic(auto, unfolding(task::specs::TaskFile::with_pair))]
 fn with_pair(t: Task, left: u8, right: u8) -> Task
     requires { 1 ≤ left }
     ensures { result ≡ with_pair t left right }
 {
-    let mut start = t.start;
-    if left <= Model::REGISTERS {
-        start.partners[(left - 1) as usize] = right;
-    }
     let mut u = t;
-    u.start = start;
+    if left <= Model::REGISTERS {
+        u.start.partners[usize::from(left - 1)] = right;
+    }
     u
 }
 
 // A pair, where one may stand.
-fn step_of(p: Progress, body: &[u8]) -> Stepped
+#[tactic(auto, unfolding(task::specs::TaskFile::pair_at))]
+fn step_of(p: Progress, body: &[u8]) -> Result<Progress, Refusal>
     ensures { result ≡ pair_at p body.now }
 {
-    let t = p.task;
     let left = bytes::at(body, 0);
     let right = bytes::at(body, 1);
-    let n = refusal(t, left, right);
-    if n != 0 {
-        return task_progress::refuse(n, p);
-    }
-    task_progress::next(Stage::Pairs, with_pair(t, left, right))
+    admit(p.task, left, right)?;
+    Ok(Progress {
+        stage: Stage::Pairs,
+        task: with_pair(p.task, left, right),
+    })
 }
 
 // It stands after the right model, and before the history's size.
-pub fn step(p: Progress, body: &[u8]) -> Stepped
+#[tactic(auto, unfolding(task::specs::TaskFile::pair))]
+pub fn step(p: Progress, body: &[u8]) -> Result<Progress, Refusal>
     ensures { result ≡ pair p.stage p body.now }
 {
-    let stage = p.stage;
-    if !among_pairs(stage) {
-        return task_progress::refuse(3, p);
+    if !among_pairs(p.stage) {
+        return Err(Refusal::Misplaced);
     }
     step_of(p, body)
 }

@@ -1,3 +1,2 @@
--- Lemmas on the rest of a file and on the state that is due.
-pub mod StateDueKept
-pub mod RestOfFile
+-- What a turn of the reader's loop comes to.
+pub mod Steps

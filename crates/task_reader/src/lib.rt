@@ -1,68 +1,23 @@
 // The task reader (01, "The task file"): bytes in, both models and the start position or a refusal out.
 //
-// A new kind of record is a variant of `Kind` with its byte, its length and its step, below.
+// A new kind of record is a variant of `task::Kind` with its byte and its length, and its step below.
 #![tactic(auto)]
 
 ghost use Rattle.std.specs.Prelude.{◌≡◌};
-ghost use Rattle.task.specs.TaskFile.{record_kind, body_length, step, no_task, refused, at_start, at_end, read_task};
+ghost use Rattle.task.specs.TaskFile.{step, no_task, at_start, at_end, read_task};
 ghost use Rattle.task_progress.specs.Due.{Due};
-ghost use Rattle.task_reader.specs.Kinds.{defined, announced};
 
 use fra::{Position, Task};
-use task::{Answer, Progress, Stage, Stepped, TaskRead};
+use task::{Kind, Progress, Refusal, Stage};
 use task_edges::edge;
 use task_models::{header, state};
 use task_pairs::{end, history, pair};
 
-#[derive(Clone, Copy)]
-pub enum Kind {
-    Header,
-    State,
-    Edge,
-    Pair,
-    History,
-    End,
-}
-
-// What a kind byte announces.
-#[derive(Clone, Copy)]
-pub enum KindByte {
-    Of(Kind),
-    Unknown,
-}
-
-fn kind_byte(byte: u8) -> KindByte
-    ensures { record_kind byte ≡ announced result }
-{
-    match byte {
-        1 => KindByte::Of(Kind::Header),
-        2 => KindByte::Of(Kind::State),
-        3 => KindByte::Of(Kind::Edge),
-        4 => KindByte::Of(Kind::Pair),
-        5 => KindByte::Of(Kind::History),
-        15 => KindByte::Of(Kind::End),
-        _ => KindByte::Unknown,
-    }
-}
-
-// The bytes of a record's body.
-fn body_length(kind: Kind) -> usize
-    ensures { result ≡ body_length (defined kind) }
-{
-    match kind {
-        Kind::Header => 3,
-        Kind::State => 3,
-        Kind::Edge => 5,
-        Kind::Pair => 2,
-        Kind::History => 1,
-        Kind::End => 0,
-    }
-}
-
 // What a record does to the task as far as it is read.
-fn step(kind: Kind, p: Progress, body: &[u8]) -> Stepped
+#[tactic(auto, unfolding(task::specs::TaskFile::step))]
+fn step(kind: Kind, p: Progress, body: &[u8]) -> Result<Progress, Refusal>
     requires { Due p.stage p.task }
-    ensures { result ≡ step (defined kind) p body.now }
+    ensures { result ≡ step kind p body.now }
 {
     match kind {
         Kind::Header => header::step(p, body),
@@ -79,15 +34,15 @@ fn no_task() -> Task
     ensures { result ≡ no_task }
 {
     let m = header::headed(0, 0, 0);
-    let start = Position::unmatched(0, 0);
     Task {
         left: m,
         right: m,
-        start,
+        start: Position::unmatched(0, 0),
         history_stated: false,
     }
 }
 
+#[tactic(auto, unfolding(task::specs::TaskFile::at_start))]
 fn at_start() -> Progress
     ensures { result ≡ at_start }
 {
@@ -97,52 +52,29 @@ fn at_start() -> Progress
     }
 }
 
-fn refused(n: u8) -> TaskRead
-    ensures { result ≡ refused n }
-{
-    TaskRead {
-        answer: Answer::Refused(n),
-        task: no_task(),
-    }
-}
-
 // A file that ends here has been read if its end record has.
-fn at_end(p: Progress) -> TaskRead
-    ensures { result ≡ at_end p p.stage }
+#[tactic(auto, unfolding(task::specs::TaskFile::at_end))]
+fn at_end(p: Progress) -> Result<Task, Refusal>
+    ensures { result ≡ at_end p.stage p.task }
 {
-    let stage = p.stage;
-    let Stage::Ended = stage else {
-        return refused(2);
+    let Stage::Ended = p.stage else {
+        return Err(Refusal::CutShort);
     };
-    let task = p.task;
-    TaskRead {
-        answer: Answer::Read,
-        task,
-    }
+    Ok(p.task)
 }
 
-pub fn read_task(file: &[u8]) -> TaskRead
+pub fn read_task(file: &[u8]) -> Result<Task, Refusal>
     ensures { result ≡ read_task file.now }
 {
     let mut p = at_start();
-    let mut at = 0;
-    while at < file.len() {
-        let KindByte::Of(kind) = kind_byte(file[at]) else {
-            return refused(1);
-        };
-        let start = at + 1;
-        let length = body_length(kind);
-        if file.len() - start < length {
-            return refused(2);
-        }
-        let end = start + length;
-        let s = step(kind, p, &file[start..end]);
-        let n = s.refusal;
-        if n != 0 {
-            return refused(n);
-        }
-        p = s.progress;
-        at = end;
+    let mut rest = file;
+    while let Some((byte, after)) = rest.split_first() {
+        let kind = Kind::try_from(*byte)?;
+        let (body, left) = after
+            .split_at_checked(kind.body_length())
+            .ok_or(Refusal::CutShort)?;
+        p = step(kind, p, body)?;
+        rest = left;
     }
     at_end(p)
 }

@@ -1,5 +1,5 @@
 -- Decimal digits: the last one and those before it, and how many there are. Assumes nothing.
-use Prim.Native.Nat.{ℕ, zero, suc, ◌+◌, ◌/◌, ◌%◌, ◌^◌, ◌≤◌, ◌<◌}
+use Prim.Native.Nat.{ℕ, zero, suc, ◌+◌, ◌*◌, ◌/◌, ◌%◌, ◌^◌, ◌≤◌, ◌<◌}
 use mathlib.Core.Path.{◌≡◌, refl, sym, ap, ◌∙◌}
 use mathlib.Core.Logic.{◌⊎◌, inl, inr, ⊎_elim}
 use mathlib.Core.Bool.{Bool, true, false}
@@ -21,7 +21,7 @@ more-digits : (k n : ℕ) → 10 ≤ n → digits_within (suc k) n ≡ digits_wi
 unfolding digits_within
 more-digits k n h = rw (le-ltb n 10 h, digits_within)
 
-one_or_more : (n : ℕ) → (n < 10) ⊎ (10 ≤ n)
+pub one_or_more : (n : ℕ) → (n < 10) ⊎ (10 ≤ n)
 one_or_more n = by (ltb n 10) refl
   where
     by : (b : Bool) → ltb n 10 ≡ b → (n < 10) ⊎ (10 ≤ n)
@@ -66,6 +66,24 @@ digits-most (suc k) n h =
     let fewer : n / 10 < 10 ^ suc k = omega (arith, pow-suc 10 (suc k)) in
     omega (arith, length_more n m, digits-most k (n / 10) fewer))
     (one_or_more n)
+
+digits-least : (k n : ℕ) → 10 ^ k ≤ n → k + 1 ≤ length (decimal n)
+digits-least zero n h = some-digit n
+digits-least (suc k) n h =
+    let more : 10 ^ k ≤ n / 10 = omega (arith, pow-suc 10 k) in
+    let some : 1 ≤ 10 ^ k = pow-positive k in
+    let many : 10 ≤ n = omega (arith, pow-suc 10 k) in
+    omega (arith, length_more n many, digits-least k (n / 10) more)
+  where
+    pow-positive : (k : ℕ) → 1 ≤ 10 ^ k
+    pow-positive zero = omega arith
+    pow-positive (suc k) = omega (arith, pow-suc 10 k, pow-positive k)
+
+-- the digits of a number between two powers of ten
+pub digits-between : (k n : ℕ) → 10 ^ k ≤ n → n < 10 * 10 ^ k → k + 1 ≡ length (decimal n)
+digits-between k n least most =
+    let below : n < 10 ^ suc k = omega (arith, pow-suc 10 k) in
+    omega (arith, digits-least k n least, digits-most k n below)
 
 -- a number of four bytes has at most ten digits
 pub ten_digits : (n : ℕ) → n < 2 ^ 32 → length (decimal n) ≤ 10

@@ -9,7 +9,8 @@ use lib.ListN.{length, get_or, take, set, length-append}
 use lib.Seq.{take-suc}
 use Rattle.fra_laws.proofs.FixedWidth.{sets_append}
 use Rattle.fra_laws.proofs.StringsInARow.{flat_map-append}
-use Rattle.text.specs.Text.{ascii, spaced, line_of}
+use Rattle.std.specs.Prelude.{codes}
+use Rattle.text.specs.Text.{spaced, line_of}
 use Rattle.text.specs.LentLine.{line_room, Puts}
 
 pub puts_none : (l : List ℕ) (i : ℕ) → i ≤ line_room → Puts [] l i l i
@@ -40,5 +41,5 @@ pub puts_line : (numbers : List ℕ) {word l m k : List ℕ} {i j : ℕ} → Put
     → Puts (line_of word numbers) l 0 (set k j 10) (j + 1)
 unfolding line_of
 puts_line numbers {k = k} {j = j} p q h =
-    let feed : Puts (ascii "\n") k j (set k j 10) (j + 1) = record { written = refl; behind = refl; fits = omega arith } in
+    let feed : Puts (codes "\n") k j (set k j 10) (j + 1) = record { written = refl; behind = refl; fits = omega arith } in
     puts_then (puts_then p q) feed

@@ -1,16 +1,22 @@
 -- The numbers of a record's line stand in the certificate, for any register count r: its bytes behind the kind, and the rounds.
 -- Assumes nothing.
-use Prim.Native.Nat.{ℕ, suc, ◌+◌, ◌≤◌, ◌<◌}
+use Prim.Native.Nat.{ℕ, suc, ◌+◌, ◌-◌, ◌≤◌, ◌<◌}
 use mathlib.Core.Path.{◌≡◌, refl, sym, ap, ◌∙◌}
 use mathlib.Core.List.{List, [], ◌∷◌, ◌++◌, append_assoc}
 use native.Mathlib.Omega.{arith}
-use lib.ListN.{length, get_or, take, drop, length-take, length-drop}
-use lib.Seq.{take-nil, take-suc, take-take, drop-drop, get_or-take, get_or-drop}
+use lib.ListN.{length, get_or, set, take, drop, replicate, length-take, length-drop}
+use lib.Seq.{sets, take-nil, take-suc, take-take, drop-drop, get_or-take, get_or-drop}
 use Rattle.fra.specs.Position.{bytes}
 use Rattle.outcome.specs.Bytes.{word_at}
 use Rattle.outcome.specs.Check.{position_of, loss_from, kept_length, loss_length}
 use Rattle.outcome_laws.proofs.Encoding.{position-bytes, position-encoded}
+use Rattle.task.specs.TaskFile.{max_registers}
+use Rattle.outcome.specs.Verdicts.{width_of}
+use Rattle.outcome.specs.declared.Standing.TheVariants.{Kept, Lost}
+use Rattle.listing.specs.Widths.{record_position, kept_width, lost_rounds}
 use Rattle.text.specs.Text.{body_at, loss_numbers}
+use Rattle.text.specs.LentLine.{most_numbers}
+use Rattle.text.proofs.Stores.{sets_all, sets_last}
 
 -- ── Parts of the bytes ──
 
@@ -67,3 +73,29 @@ module _ (r at : ℕ) (l : List ℕ) where
       rw (body_part (loss_length r) at l, position-bytes r body (omega arith))
       (three_more body (word_at body (r + 6) ∷ []) (r + 3) (r + 4) (r + 5) n (omega arith) (omega arith) (omega arith) (omega arith)
       ∙ rw (take-take n (loss_length r) behind (omega arith), body-rounds (r + 6) (at + (kept_length r + 4)) (omega arith) (omega arith)))
+
+-- ── The bytes of a record, widened ──
+
+-- all bytes of a kept position's record behind its kind
+pub kept-widened : (at : ℕ) (l : List ℕ) → at + width_of Kept ≤ length l
+    → sets (replicate (kept_length max_registers) 0) 0 (take (at + kept_width - (at + record_position)) (drop (at + record_position) l))
+    ≡ bytes (position_of max_registers (body_at (width_of Kept) at l))
+kept-widened at l h =
+    let size = kept_length max_registers in
+    let part : at + kept_width - (at + record_position) ≡ size = omega arith in
+    rw part
+    (sets_all (replicate size 0) (take size (drop (at + record_position) l)) (part_length size (at + record_position) l (omega arith))
+    ∙ sym (kept-numbers max_registers at l (omega arith)))
+
+-- of a lost position's record those before its rounds, and its rounds
+pub lost-widened : (at : ℕ) (l : List ℕ) → at + width_of Lost ≤ length l
+    → set (sets (replicate most_numbers 0) 0 (take (at + lost_rounds - (at + record_position)) (drop (at + record_position) l))) (most_numbers - 1) (word_at l (at + lost_rounds))
+    ≡ loss_numbers (loss_from max_registers (body_at (width_of Lost) at l))
+lost-widened at l h =
+    let size = lost_rounds - record_position in
+    let part : at + lost_rounds - (at + record_position) ≡ size = omega arith in
+    rw part
+    (sets_last (replicate most_numbers 0) (take size (drop (at + record_position) l)) size (word_at l (at + lost_rounds))
+    (part_length size (at + record_position) l (omega arith))
+    refl
+    ∙ sym (lost-numbers max_registers at l (omega arith)))

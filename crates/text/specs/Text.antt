@@ -1,7 +1,5 @@
 -- 01, "Sample pairs": what the programs `compare` and `compare_one_way` print, as bytes. A line is a word, numbers and a line feed.
-use Rattle.std.specs.Prelude.{ℕ, zero, suc, ◌+◌, ◌*◌, ◌/◌, ◌%◌, true, false, length, get_or, take, drop, replicate, ltb}
-use Prim.Native.Char.{code}
-use Prim.Native.String.{String, [] as nothing, ◌∷◌ as ◌then◌}
+use Rattle.std.specs.Prelude.{ℕ, zero, suc, ◌+◌, ◌*◌, ◌/◌, ◌%◌, true, false, length, get_or, take, drop, replicate, ltb, Result, Ok, Err, codes}
 use mathlib.Core.List.{List, [], ◌∷◌, ◌++◌, map, flat_map}
 use Rattle.fra.specs.Lists.{count}
 use Rattle.fra.specs.Position.{bytes}
@@ -9,7 +7,9 @@ use Rattle.fra.specs.declared.Position.{Position}
 use Rattle.fra.specs.declared.Game.{Game}
 use Rattle.task.specs.TaskFile.{max_registers}
 use Rattle.outcome.specs.Bytes.{word_at}
-use Rattle.outcome.specs.Verdicts.{contest_of, standing_of, width_of}
+use Rattle.task.specs.Refusals.{number_of}
+use Rattle.task.specs.declared.Refusal.{Refusal}
+use Rattle.outcome.specs.Verdicts.{contest_of, standing_of, width_of, verdict_word}
 use Rattle.outcome.specs.Certificate.{Loss}
 use Rattle.outcome.specs.Compare.{Outcome, compare}
 use Rattle.outcome.specs.Check.{position_of, loss_from}
@@ -17,16 +17,9 @@ use Rattle.listing.specs.Widths.{entry_width}
 use Rattle.outcome.specs.declared.Standing.{Standing}
 use Rattle.outcome.specs.declared.Standing.TheVariants.{Kept, Lost}
 use Rattle.outcome.specs.declared.Verdict.{Verdict}
-use Rattle.outcome.specs.declared.Verdict.TheVariants.{Equal, Differ, Follows, FallsShort}
 use Rattle.outcome.specs.declared.Comparison.{Comparison}
-use Rattle.outcome.specs.declared.Comparison.TheVariants.{Decided, Refused}
 
 -- ── Words and numbers ──
-
--- the numbers of a text's characters: its bytes, since all of them are below 128 here
-abbrev pub ascii : String → List ℕ
-ascii nothing = []
-ascii (c then s) = code c ∷ ascii s
 
 abbrev pub digit : ℕ → ℕ
 digit d = 48 + d
@@ -43,18 +36,12 @@ decimal n = digits_within n n
 
 -- a number behind a space
 unfoldable pub spaced : ℕ → List ℕ
-spaced n = ascii " " ++ decimal n
+spaced n = codes " " ++ decimal n
 
 unfoldable pub line_of : List ℕ → List ℕ → List ℕ
-line_of word numbers = word ++ flat_map spaced numbers ++ ascii "\n"
+line_of word numbers = word ++ flat_map spaced numbers ++ codes "\n"
 
 -- ── Lines ──
-
-abbrev pub verdict_word : Verdict → List ℕ
-verdict_word Equal = ascii "EQUAL"
-verdict_word Differ = ascii "DIFFER"
-verdict_word Follows = ascii "FOLLOWS"
-verdict_word FallsShort = ascii "FALLS SHORT"
 
 -- "First line: verdict, positions, rounds."
 abbrev pub first_line : Verdict → ℕ → ℕ → List ℕ
@@ -62,22 +49,22 @@ first_line v positions rounds = line_of (verdict_word v) (positions ∷ rounds �
 
 -- "EQUAL lines are `KEPT`" and the position's numbers; 02, ticket 2: "printed lines show the size after the partners"
 abbrev pub kept_line : Position → List ℕ
-kept_line p = line_of (ascii "KEPT") (bytes p)
+kept_line p = line_of (codes "KEPT") (bytes p)
 
 -- "per record: two states, six partners", the size, "side, edge, case, rounds"
 abbrev pub loss_numbers : Loss → List ℕ
 loss_numbers x = bytes x.position ++ (x.side ∷ x.edge ∷ x.case ∷ x.rounds ∷ [])
 
 abbrev pub lost_line : Loss → List ℕ
-lost_line x = line_of (ascii "LOST") (loss_numbers x)
+lost_line x = line_of (codes "LOST") (loss_numbers x)
 
 -- "a refusal `REFUSED` and its number"
 abbrev pub refused_line : ℕ → List ℕ
-refused_line n = line_of (ascii "REFUSED") (n ∷ [])
+refused_line n = line_of (codes "REFUSED") (n ∷ [])
 
 -- "Longer input prints `TOO LONG`"
 abbrev pub too_long : List ℕ
-too_long = line_of (ascii "TOO LONG") []
+too_long = line_of (codes "TOO LONG") []
 
 -- ── What is printed ──
 
@@ -94,16 +81,16 @@ unfoldable pub record_lines : Standing → List ℕ → List (List ℕ)
 record_lines s l = map (λ i. record_line s (body_at (width_of s) (i * width_of s) l)) (count 0 (length l / width_of s))
 
 -- the lines of an answer, with the certificate buffer that it comes with
-unfoldable pub lines_of : Comparison → List ℕ → List (List ℕ)
-lines_of (Decided v positions rounds size) certificate =
-    first_line v positions rounds ∷ record_lines (standing_of v) (take size certificate)
-lines_of (Refused n) certificate = refused_line n ∷ []
+unfoldable pub lines_of : Result Comparison Refusal → List ℕ → List (List ℕ)
+lines_of (Ok c) certificate =
+    first_line c.verdict c.positions c.rounds ∷ record_lines (standing_of c.verdict) (take c.length certificate)
+lines_of (Err e) certificate = refused_line (number_of e) ∷ []
 
 abbrev pub lines : Outcome → List (List ℕ)
 lines o = lines_of o.answer o.certificate
 
 -- line i; past the last one, nothing
-abbrev pub line_at : Comparison → List ℕ → ℕ → List ℕ
+abbrev pub line_at : Result Comparison Refusal → List ℕ → ℕ → List ℕ
 line_at answer certificate i = get_or (lines_of answer certificate) i []
 
 -- the lines one after another

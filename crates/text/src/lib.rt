@@ -1,8 +1,9 @@
 // What the programs `compare` and `compare_one_way` print (01, "Sample pairs"), line by line in a lent buffer.
 #![tactic(auto)]
 
-ghost use Rattle.std.specs.Prelude.{◌+◌, ◌/◌, ◌≤◌, ◌≡◌, length, take};
+ghost use Rattle.std.specs.Prelude.{◌+◌, ◌/◌, ◌≤◌, ◌≡◌, length, take, replicate};
 ghost use lib.Seq.{sets};
+ghost use Rattle.task.specs.Refusals.{number_of};
 ghost use Rattle.outcome.specs.Verdicts.{width_of};
 ghost use Rattle.outcome.specs.declared.Standing.TheVariants.{Kept, Lost};
 ghost use Rattle.text.specs.Text.{line_of, first_line, refused_line, too_long, body_at, record_line, lines_of, line_at};
@@ -11,7 +12,8 @@ ghost use Rattle.text.specs.LentLine.{longest_word, most_numbers, Puts};
 use crate::numbers::put_number;
 use listing::words::word_at;
 use outcome::layout::{KEPT_WIDTH, POSITION, ROUNDS};
-use outcome::{Comparison, Standing, Verdict};
+use outcome::{Comparison, Standing};
+use task::Refusal;
 
 mod numbers;
 
@@ -34,12 +36,8 @@ fn put_word(word: &[u8], line: &mut [u8; LINE]) -> usize
     requires { length word.now ≤ longest_word }
     ensures { Puts word.now line.old 0 line.new result }
 {
-    let mut i = 0;
-    while i < word.len() {
-        line[i] = word[i];
-        i += 1;
-    }
-    i
+    line[..word.len()].copy_from_slice(word);
+    word.len()
 }
 
 // Writes a line: a word, numbers and a line feed.
@@ -48,81 +46,59 @@ fn put(word: &[u8], numbers: &[u32], line: &mut [u8; LINE]) -> usize
     ensures { Puts (line_of word.now numbers.now) line.old 0 line.new result }
 {
     let mut at = put_word(word, line);
-    let mut i = 0;
-    while i < numbers.len() {
-        at = put_number(numbers[i], line, at);
-        i += 1;
+    for n in numbers {
+        at = put_number(*n, line, at);
     }
     line[at] = b'\n';
     at + 1
 }
 
 // "First line: verdict, positions, rounds."
-fn put_first(verdict: Verdict, positions: u32, rounds: u32, line: &mut [u8; LINE]) -> usize
-    ensures { Puts (first_line verdict positions rounds) line.old 0 line.new result }
+fn put_first(answer: Comparison, line: &mut [u8; LINE]) -> usize
+    ensures { Puts (first_line answer.verdict answer.positions answer.rounds) line.old 0 line.new result }
 {
-    let numbers = [positions, rounds];
-    match verdict {
-        Verdict::Equal => put(b"EQUAL", &numbers, line),
-        Verdict::Differ => put(b"DIFFER", &numbers, line),
-        Verdict::Follows => put(b"FOLLOWS", &numbers, line),
-        Verdict::FallsShort => put(b"FALLS SHORT", &numbers, line),
-    }
+    let numbers = [answer.positions, answer.rounds];
+    put(answer.verdict.word().as_bytes(), &numbers, line)
 }
 
 // "a refusal `REFUSED` and its number"
-fn put_refusal(n: u8, line: &mut [u8; LINE]) -> usize
-    ensures { Puts (refused_line n) line.old 0 line.new result }
+fn put_refusal(refusal: Refusal, line: &mut [u8; LINE]) -> usize
+    ensures { Puts (refused_line (number_of refusal)) line.old 0 line.new result }
 {
-    let numbers = [n as u32];
-    put(b"REFUSED", &numbers, line)
+    let number = u8::from(refusal);
+    put(b"REFUSED", &[u32::from(number)], line)
 }
 
-// Bytes as numbers, from the start of the numbers.
-fn widen(bytes: &[u8], numbers: &mut [u32])
-    requires { length bytes.now ≤ length numbers.old }
-    ensures { numbers.new ≡ sets numbers.old 0 bytes.now }
+// Bytes as numbers, and zeros behind them.
+fn widened<const N: usize>(bytes: &[u8]) -> [u32; N]
+    requires { length bytes.now ≤ N }
+    ensures { result ≡ sets (replicate N 0) 0 bytes.now }
 {
-    let mut i = 0;
-    while i < bytes.len() {
-        numbers[i] = bytes[i] as u32;
-        i += 1;
+    let mut numbers = [0u32; N];
+    for (i, b) in bytes.iter().enumerate() {
+        numbers[i] = u32::from(*b);
     }
+    numbers
 }
 
-// "EQUAL lines are `KEPT`" and the numbers of a position.
-fn put_kept(certificate: &[u8], at: usize, line: &mut [u8; LINE]) -> usize
-    requires { at + width_of Kept ≤ length certificate.now }
-    ensures { Puts (record_line Kept (body_at (width_of Kept) at certificate.now)) line.old 0 line.new result }
-{
-    let mut numbers = [0u32; KEPT_NUMBERS];
-    let from = at + POSITION;
-    let to = at + KEPT_WIDTH;
-    widen(&certificate[from..to], &mut numbers);
-    put(b"KEPT", &numbers, line)
-}
-
-// "per record: two states, six partners", the size, "side, edge, case, rounds"
-fn put_lost(certificate: &[u8], at: usize, line: &mut [u8; LINE]) -> usize
-    requires { at + width_of Lost ≤ length certificate.now }
-    ensures { Puts (record_line Lost (body_at (width_of Lost) at certificate.now)) line.old 0 line.new result }
-{
-    let mut numbers = [0u32; LOST_NUMBERS];
-    let from = at + POSITION;
-    let to = at + ROUNDS;
-    widen(&certificate[from..to], &mut numbers);
-    numbers[LOST_NUMBERS - 1] = word_at(certificate, to);
-    put(b"LOST", &numbers, line)
-}
-
-// The line of the record that starts here.
+// The line of the record that starts here. "EQUAL lines are `KEPT`" and the numbers of a position; "per record: two states, six
+// partners", the size, "side, edge, case, rounds".
 fn put_record(standing: Standing, certificate: &[u8], at: usize, line: &mut [u8; LINE]) -> usize
     requires { at + width_of standing ≤ length certificate.now }
     ensures { Puts (record_line standing (body_at (width_of standing) at certificate.now)) line.old 0 line.new result }
 {
+    let from = at + POSITION;
     match standing {
-        Standing::Kept => put_kept(certificate, at, line),
-        Standing::Lost => put_lost(certificate, at, line),
+        Standing::Kept => {
+            let numbers = widened::<KEPT_NUMBERS>(&certificate[from..at + KEPT_WIDTH]);
+            put(b"KEPT", &numbers, line)
+        }
+        Standing::Lost => {
+            let to = at + ROUNDS;
+            let mut numbers = widened::<LOST_NUMBERS>(&certificate[from..to]);
+            numbers[LOST_NUMBERS - 1] = word_at(certificate, to);
+            put(b"LOST", &numbers, line)
+        }
     }
 }
 
@@ -130,47 +106,38 @@ fn put_record(standing: Standing, certificate: &[u8], at: usize, line: &mut [u8;
 fn record_count(standing: Standing, certificate: &[u8], size: usize) -> usize
     ensures { result ≡ length (take size certificate.now) / width_of standing }
 {
-    let room = certificate.len();
-    let filled = if room < size { room } else { size };
-    filled / standing.width()
+    certificate.len().min(size) / standing.width()
 }
 
 // The lines of an answer, with the certificate buffer that it comes with.
-pub fn line_count(answer: Comparison, certificate: &[u8]) -> usize
+pub fn line_count(answer: Result<Comparison, Refusal>, certificate: &[u8]) -> usize
     ensures { result ≡ length (lines_of answer certificate.now) }
 {
     match answer {
-        Comparison::Decided {
-            verdict,
-            positions: _,
-            rounds: _,
-            length,
-        } => 1 + record_count(verdict.standing(), certificate, length),
-        Comparison::Refused(_) => 1,
+        Ok(c) => 1 + record_count(c.verdict.standing(), certificate, c.length),
+        Err(_) => 1,
     }
 }
 
 // Writes line i of an answer and returns its length, 0 where there is no such line.
-pub fn put_line(answer: Comparison, certificate: &[u8], i: usize, line: &mut [u8; LINE]) -> usize
+pub fn put_line(
+    answer: Result<Comparison, Refusal>,
+    certificate: &[u8],
+    i: usize,
+    line: &mut [u8; LINE],
+) -> usize
     ensures { Puts (line_at answer certificate.now i) line.old 0 line.new result }
 {
     if line_count(answer, certificate) <= i {
         return 0;
     }
     match answer {
-        Comparison::Decided {
-            verdict,
-            positions,
-            rounds,
-            length: _,
-        } => {
-            if i == 0 {
-                return put_first(verdict, positions, rounds, line);
-            }
-            let standing = verdict.standing();
+        Ok(c) if i == 0 => put_first(c, line),
+        Ok(c) => {
+            let standing = c.verdict.standing();
             put_record(standing, certificate, (i - 1) * standing.width(), line)
         }
-        Comparison::Refused(n) => put_refusal(n, line),
+        Err(refusal) => put_refusal(refusal, line),
     }
 }
 
@@ -178,6 +145,5 @@ pub fn put_line(answer: Comparison, certificate: &[u8], i: usize, line: &mut [u8
 pub fn put_too_long(line: &mut [u8; LINE]) -> usize
     ensures { Puts too_long line.old 0 line.new result }
 {
-    let numbers: [u32; 0] = [];
-    put(b"TOO LONG", &numbers, line)
+    put(b"TOO LONG", &[], line)
 }

@@ -1,4 +1,5 @@
 // Numbers in decimal digits.
+// std's `write!` promises its text only where it gives Ok, and no clause says that it does: the digits are written here.
 ghost use Rattle.std.specs.Prelude.{◌+◌, ◌≤◌, ◌<◌, ◌≡◌, length};
 ghost use lib.Seq.{sets};
 ghost use Rattle.text.specs.Text.{decimal, spaced, digit};
@@ -10,13 +11,10 @@ use crate::LINE;
 fn places(n: u32) -> usize
     ensures { result ≡ length (decimal n) }
 {
-    let mut k = 1;
-    let mut rest = n;
-    while 10 <= rest {
-        rest /= 10;
-        k += 1;
+    match n.checked_ilog10() {
+        Some(k) => k as usize + 1,
+        None => 1,
     }
-    k
 }
 
 fn digit(d: u32) -> u8
@@ -31,14 +29,11 @@ fn put_digits(n: u32, line: &mut [u8; LINE], at: usize, end: usize)
     requires { (end ≡ at + length (decimal n)) × (end ≤ line_room) }
     ensures { line.new ≡ sets line.old at (decimal n) }
 {
-    let mut i = end - 1;
     let mut rest = n;
-    while 10 <= rest {
+    for i in (at..end).rev() {
         line[i] = digit(rest % 10);
         rest /= 10;
-        i -= 1;
     }
-    line[i] = digit(rest);
 }
 
 // Writes a number behind a space, and returns the place behind it.

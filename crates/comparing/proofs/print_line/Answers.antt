@@ -1,7 +1,6 @@
--- `comparing::print_line` meets its contract. The answer names no field of the call, so that another count of bytes is refused at
--- its value. Assumes nothing.
-use native.Mathlib.Omega.{arith}
+-- The answer names no field of the call, so that another count of bytes is refused at its value.
+use Rattle.std.proofs.Common.{arith}
 use Rattle.comparing.proofs.print_line.Goals as goal
 
-pub print-requires : goal.print-requires
-print-requires c = omega arith
+pub slice_bounds-line-end : goal.slice_bounds-line-end
+slice_bounds-line-end c = omega arith

@@ -1,2 +1,0 @@
--- What the functions answer, in terms of the definitions.
-pub mod Named

@@ -1,3 +1,0 @@
--- Lemmas that the proofs of the functions share.
-pub mod PairTests
-pub mod RecordPlaces

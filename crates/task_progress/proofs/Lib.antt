@@ -1,4 +1,0 @@
--- Lemmas that the proofs about records share.
-pub mod Chains
-pub mod OutOfPlace
-pub mod StepResults

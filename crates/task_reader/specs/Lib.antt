@@ -1,2 +1,0 @@
--- The kinds of record, as the code has them.
-pub mod Kinds

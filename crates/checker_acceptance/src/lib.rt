@@ -49,7 +49,8 @@ fn kept_holds(index: &TaskIndex, certificate: &[u8], pairs: &[u8; PAIRS], p: Pos
     requires { Testable Kept index.now.bytes certificate.now pairs.now }
     ensures { result ≡ holds (rules_in index.now.bytes) (task_in index.now.bytes) (kept_in certificate.now) p }
 {
-    if game_index::lost_at_once(&index.bytes, p) {
+    let lost = game_index::lost_at_once(&index.bytes, p);
+    if lost {
         return false; // for its end marks lose
     }
     let records = records_of(Standing::Kept, certificate.len());
@@ -83,7 +84,8 @@ fn forces(index: &TaskIndex, certificate: &[u8], pairs: &[u8; PAIRS], x: Claim, 
     ensures { result ≡ forces (rules_in index.now.bytes) (task_in index.now.bytes) (losses_in certificate.now) (loss_of x) (Some a) }
 {
     let p = x.position;
-    if !is_attack(&index.bytes, p, a) {
+    let there = is_attack(&index.bytes, p, a);
+    if !there {
         return false; // for there is no such attack
     }
     let records = records_of(Standing::Lost, certificate.len());
@@ -103,7 +105,8 @@ fn forces(index: &TaskIndex, certificate: &[u8], pairs: &[u8; PAIRS], x: Claim, 
 fn lost_already(index: &[u8; SIZE], x: Claim) -> bool
     ensures { result ≡ lost_already (rules_in index.now) (task_in index.now) (loss_of x) }
 {
-    if !game_index::lost_at_once(index, x.position) {
+    let lost = game_index::lost_at_once(index, x.position);
+    if !lost {
         return false; // for its end marks do not lose
     }
     x.side == 0 && x.edge == 0 && x.case == 0
@@ -158,7 +161,8 @@ pub fn accepted(index: &TaskIndex, certificate: &[u8], standing: Standing) -> bo
 {
     let records = records_of(standing, certificate.len());
     let place = find(certificate, records, game_index::start(&index.bytes));
-    if place.is_none() {
+    let listed = place.is_some();
+    if !listed {
         return false; // for the start is not listed
     }
     let pairs = game_state_pairs::ALL;

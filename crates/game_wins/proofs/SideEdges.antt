@@ -85,11 +85,11 @@ module _ (g : Rules) (t : Task) (lost : Position → Bool) (p : Position) where
   abbrev winning : Attack → Bool
   winning = wins_by t lost p
 
-  left-wins : {a : Attack} → first winning (side_attacks g t p Left) ≡ Some a → winner g t lost p ≡ Some a
+  pub left-wins : {a : Attack} → first winning (side_attacks g t p Left) ≡ Some a → winner g t lost p ≡ Some a
   unfolding winner
   left-wins e = rw (attacks_by_side g t p) (found_first winning (side_attacks g t p Left) (side_attacks g t p Right) e)
 
-  left_fails : first winning (side_attacks g t p Left) ≡ None
+  pub left_fails : first winning (side_attacks g t p Left) ≡ None
       → winner g t lost p ≡ first winning (side_attacks g t p Right)
   unfolding winner
   left_fails e = rw (attacks_by_side g t p) (found-later winning (side_attacks g t p Left) (side_attacks g t p Right) e)

@@ -4,7 +4,7 @@ use Prim.Native.Nat.{ℕ, ◌+◌, ◌*◌, ◌/◌, ◌^◌, ◌<◌}
 use mathlib.Core.Path.{◌≡◌, refl, sym, ap, ap₂}
 use mathlib.Core.Logic.{⊎_elim}
 use mathlib.Core.Bool.{Bool, true, false, ◌&&◌, false≢true}
-use mathlib.Core.List.{List, [], ◌∷◌}
+use mathlib.Core.List.{List, [], ◌∷◌, ◌++◌}
 use native.Mathlib.Omega.{arith}
 use native.Mathlib.Nat.{mul_assoc, mul-one, div-one, pow-zero, pow-suc, pow-succ', div-div-eq-div-mul}
 use lib.ListN.{length}
@@ -61,6 +61,12 @@ module _ (base : ℕ) where
       let k = eqb-true d e (and_left (eqb d e) (below ds es) r) in
       rw k (value-below (x * base + e) ds es (omega arith) b.1 c.1 (and_right (eqb d e) (below ds es) r)))
       (or_cases (ltb d e) (eqb d e && below ds es) h)
+
+  -- one digit more at the end
+  pub value_snoc : (before : ℕ) (ds : List ℕ) (d : ℕ) → value base before (ds ++ (d ∷ [])) ≡ value base before ds * base + d
+  unfolding value
+  value_snoc before [] d = refl
+  value_snoc before (e ∷ ds) d = value_snoc (before * base + e) ds d
 
   -- what stands before a string is left when its places are divided away
   pub value_div : (before : ℕ) (ds : List ℕ) → Below base ds → value base before ds / base ^ length ds ≡ before

@@ -27,6 +27,10 @@ pub record Bracket (f : ℕ → ℕ) (n sought low high : ℕ) : Type 0 where
   pub less : (k : ℕ) → k < low → f k < sought
   pub reached : (k : ℕ) → high ≤ k → k < n → sought ≤ f k
 
+pub bracket_start : (f : ℕ → ℕ) (n sought : ℕ) → Bracket f n sought 0 n
+bracket_start f n sought =
+    record { ordered = omega arith; within = omega arith; less = λ k h. absurd (omega arith); reached = λ k h i. absurd (omega arith) }
+
 module _ (f : ℕ → ℕ) (n : ℕ) (rises : (i j : ℕ) → i < j → j < n → f i < f j) where
   risen : (i j : ℕ) → i ≤ j → j < n → f i ≤ f j
   risen i j h k = elim (dec_lt i j) [ yes d ↦ omega (arith, rises i j d k) | no d ↦ le_of_eq (ap f (omega arith)) ]
@@ -58,15 +62,15 @@ module _ (y : Listing) (l : List ℕ) (s : Searchable y l) (b : Bytes l) (p : Po
       number-bytes y l b s.fitting k h
       ∙ ap (λ (q : Position). value 256 0 (bytes q)) (sym (positions-at y l k p h) ∙ d)
 
-  found_at : at < y.count → number_at y l at ≡ value 256 0 (bytes p) → place_of p (positions_in y l) ≡ Some at
+  pub found_at : at < y.count → number_at y l at ≡ value 256 0 (bytes p) → place_of p (positions_in y l) ≡ Some at
   found_at h d =
       place_at p (positions_in y l) at p (omega (arith, positions-length y l))
       (positions-at y l at p h ∙ number-found y l b s.fitting at h p long small d)
       (λ j k e. omega (arith, bound.less j k, number_of j (omega arith) e))
 
   -- past all records, or at a position of another number: the position is nowhere
-  found_none : (at < y.count → number_at y l at ≡ value 256 0 (bytes p) → ⊥) → place_of p (positions_in y l) ≡ None
-  found_none absent =
+  pub found_nowhere : (at < y.count → number_at y l at ≡ value 256 0 (bytes p) → ⊥) → place_of p (positions_in y l) ≡ None
+  found_nowhere absent =
       place-missing p (positions_in y l) p
       (λ j k e. let h : j < y.count = omega (arith, positions-length y l) in none j h (number_of j h e) (dec_lt j at) (dec_lt at j))
     where
@@ -81,4 +85,4 @@ module _ (y : Listing) (l : List ℕ) (s : Searchable y l) (b : Bytes l) (p : Po
       → (found ≡ false → at < y.count → number_at y l at ≡ value 256 0 (bytes p) → ⊥)
       → then_some found at ≡ place_of p (positions_in y l)
   place-found true here absent = let h = here refl in sym (found_at h.0 h.1)
-  place-found false here absent = sym (found_none (absent refl))
+  place-found false here absent = sym (found_nowhere (absent refl))

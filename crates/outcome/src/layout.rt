@@ -1,5 +1,6 @@
 // The table's entries and the records of a certificate (01, "Verdict, table, certificate"): widths, kind bytes, and where fields
 // stand.
+use crate::Verdict;
 use fra::Position;
 
 // The bytes of a number of rounds.
@@ -27,3 +28,12 @@ pub const ROUNDS: usize = CASE + 1;
 pub const KEPT_WIDTH: usize = SIDE;
 
 pub const LOST_WIDTH: usize = ROUNDS + WORD;
+
+// The kinds of records, by the verdict: the numbers at its variants.
+pub const EQUAL_KIND: u8 = Verdict::Equal as u8;
+
+pub const DIFFER_KIND: u8 = Verdict::Differ as u8;
+
+pub const FOLLOWS_KIND: u8 = Verdict::Follows as u8;
+
+pub const FALLS_SHORT_KIND: u8 = Verdict::FallsShort as u8;

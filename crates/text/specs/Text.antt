@@ -1,5 +1,5 @@
 -- 01, "Sample pairs": what the programs `compare` and `compare_one_way` print, as bytes. A line is a word, numbers and a line feed.
-use Rattle.std.specs.Prelude.{ℕ, zero, suc, ◌+◌, ◌*◌, ◌/◌, ◌%◌, true, false, length, get_or, take, drop, replicate, ltb, Result, Ok, Err, codes}
+use Rattle.std.specs.Prelude.{ℕ, ◌≡◌, zero, suc, ◌+◌, ◌*◌, ◌/◌, ◌%◌, true, false, length, get_or, take, drop, replicate, ltb, Result, Ok, Err, codes}
 use mathlib.Core.List.{List, [], ◌∷◌, ◌++◌, map, flat_map}
 use Rattle.fra.specs.Lists.{count}
 use Rattle.fra.specs.Position.{bytes}
@@ -80,22 +80,33 @@ record_line Lost body = lost_line (loss_from max_registers body)
 unfoldable pub record_lines : Standing → List ℕ → List (List ℕ)
 record_lines s l = map (λ i. record_line s (body_at (width_of s) (i * width_of s) l)) (count 0 (length l / width_of s))
 
--- the lines of an answer, with the certificate buffer that it comes with
-unfoldable pub lines_of : Result Comparison Refusal → List ℕ → List (List ℕ)
-lines_of (Ok c) certificate =
+-- the lines of an answer, with the certificate buffer that it comes with; a refusal is told by its number
+unfoldable pub lines_by : {R : Type 0} → (R → ℕ) → Result Comparison R → List ℕ → List (List ℕ)
+lines_by number (Ok c) certificate =
     first_line c.verdict c.positions c.rounds ∷ record_lines (standing_of c.verdict) (take c.length certificate)
-lines_of (Err e) certificate = refused_line (number_of e) ∷ []
+lines_by number (Err e) certificate = refused_line (number e) ∷ []
+
+-- a conversion gives each refusal this number
+abbrev pub Numbers : {R : Type 0} → (R → ℕ → Type 0) → (R → ℕ) → Type 0
+Numbers {R} converts number = (e : R) (n : ℕ) → converts e n → n ≡ number e
+
+-- line i; past the last one, nothing
+abbrev pub line_by : {R : Type 0} → (R → ℕ) → Result Comparison R → List ℕ → ℕ → List ℕ
+line_by number answer certificate i = get_or (lines_by number answer certificate) i []
+
+-- the lines of what the comparer answers
+abbrev pub lines_of : Result Comparison Refusal → List ℕ → List (List ℕ)
+lines_of = lines_by number_of
 
 abbrev pub lines : Outcome → List (List ℕ)
 lines o = lines_of o.answer o.certificate
 
--- line i; past the last one, nothing
 abbrev pub line_at : Result Comparison Refusal → List ℕ → ℕ → List ℕ
-line_at answer certificate i = get_or (lines_of answer certificate) i []
+line_at = line_by number_of
 
 -- the lines one after another
 unfoldable pub printed : Outcome → List ℕ
-unfolding flat_map count bytes word_at position_of loss_from digits_within decimal spaced line_of record_lines lines_of
+unfolding flat_map count bytes word_at position_of loss_from digits_within decimal spaced line_of record_lines lines_by
 printed o = flat_map (λ l. l) (lines o)
 
 -- "a task of at most 4,096 bytes"

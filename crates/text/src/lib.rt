@@ -1,19 +1,17 @@
 // What the programs `compare` and `compare_one_way` print (01, "Sample pairs"), line by line in a lent buffer.
 #![tactic(auto)]
 
-ghost use Rattle.std.specs.Prelude.{◌+◌, ◌/◌, ◌≤◌, ◌≡◌, length, take, replicate};
+ghost use Rattle.std.specs.Prelude.{ℕ, ◌+◌, ◌/◌, ◌≤◌, ◌≡◌, length, take, replicate};
 ghost use lib.Seq.{sets};
-ghost use Rattle.task.specs.Refusals.{number_of};
 ghost use Rattle.outcome.specs.Verdicts.{width_of};
 ghost use Rattle.outcome.specs.declared.Standing.TheVariants.{Kept, Lost};
-ghost use Rattle.text.specs.Text.{line_of, first_line, refused_line, too_long, body_at, record_line, lines_of, line_at};
-ghost use Rattle.text.specs.LentLine.{longest_word, most_numbers, Puts};
+ghost use Rattle.text.specs.Text.{line_of, first_line, refused_line, too_long, body_at, record_line, lines_by, line_by, Numbers};
+ghost use Rattle.text.specs.LentLine.{longest_word, most_numbers, line_room, Puts};
 
 use crate::numbers::put_number;
 use listing::words::word_at;
 use outcome::layout::{KEPT_WIDTH, POSITION, ROUNDS};
 use outcome::{Comparison, Standing};
-use task::Refusal;
 
 mod numbers;
 
@@ -62,10 +60,9 @@ fn put_first(answer: Comparison, line: &mut [u8; LINE]) -> usize
 }
 
 // "a refusal `REFUSED` and its number"
-fn put_refusal(refusal: Refusal, line: &mut [u8; LINE]) -> usize
-    ensures { Puts (refused_line (number_of refusal)) line.old 0 line.new result }
+fn put_refusal(number: u8, line: &mut [u8; LINE]) -> usize
+    ensures { Puts (refused_line number) line.old 0 line.new result }
 {
-    let number = u8::from(refusal);
     put(b"REFUSED", &[u32::from(number)], line)
 }
 
@@ -109,9 +106,10 @@ fn record_count(standing: Standing, certificate: &[u8], size: usize) -> usize
     certificate.len().min(size) / standing.width()
 }
 
-// The lines of an answer, with the certificate buffer that it comes with.
-pub fn line_count(answer: Result<Comparison, Refusal>, certificate: &[u8]) -> usize
-    ensures { result ≡ length (lines_of answer certificate.now) }
+// The lines of an answer, with the certificate buffer that it comes with. A refusal is whatever has a number of one byte: a
+// `task::Refusal`, or the number itself.
+pub fn line_count<R: Copy>(answer: Result<Comparison, R>, certificate: &[u8]) -> usize
+    ensures { (number : R → ℕ) → result ≡ length (lines_by number answer certificate.now) }
 {
     match answer {
         Ok(c) => 1 + record_count(c.verdict.standing(), certificate, c.length),
@@ -120,13 +118,14 @@ pub fn line_count(answer: Result<Comparison, Refusal>, certificate: &[u8]) -> us
 }
 
 // Writes line i of an answer and returns its length, 0 where there is no such line.
-pub fn put_line(
-    answer: Result<Comparison, Refusal>,
+pub fn put_line<R: Copy + Into<u8>>(
+    answer: Result<Comparison, R>,
     certificate: &[u8],
     i: usize,
     line: &mut [u8; LINE],
 ) -> usize
-    ensures { Puts (line_at answer certificate.now i) line.old 0 line.new result }
+    ensures stands { (number : R → ℕ) → Numbers R.converts number → Puts (line_by number answer certificate.now i) line.old 0 line.new result }
+    ensures fits { result ≤ line_room }
 {
     if line_count(answer, certificate) <= i {
         return 0;
@@ -137,7 +136,7 @@ pub fn put_line(
             let standing = c.verdict.standing();
             put_record(standing, certificate, (i - 1) * standing.width(), line)
         }
-        Err(refusal) => put_refusal(refusal, line),
+        Err(refusal) => put_refusal(refusal.into(), line),
     }
 }
 

@@ -1,4 +1,4 @@
-use Rattle.std.proofs.Common.{refl, sym, ◌∙◌}
+use Rattle.std.proofs.Common.{◌≡◌, true, false, is_some, refl, sym, ◌∙◌}
 use native.Mathlib.Nat.{sub-zero}
 use Rattle.fra_laws.proofs.ByPlace.{all_stop, all_on, all_end}
 use Rattle.game_index.specs.Reading.{task_in}
@@ -8,17 +8,19 @@ use Rattle.checker_acceptance.proofs.accepted.Goals as goal
 pub find-place-requires : goal.find-place-requires
 find-place-requires c = rw c.records_of-records.ensures c.requires
 
-pub returns-then-is_none : goal.returns-then-is_none
+pub returns-then-not-listed : goal.returns-then-not-listed
 unfolding task_in
-returns-then-is_none c =
-    let none = rw (c.find-place.ensures, c.start.ensures, c.records_of-records.ensures) at c.if-is_none.ensures in
-    rw (accepted_by-places, none)
+returns-then-not-listed c =
+    let place = rw (c.start.ensures, c.records_of-records.ensures) at c.find-place.ensures in
+    let none : is_some c.find-place.result ≡ false = cc in
+    rw (accepted_by-places, ← place, none)
 
 pub loop-i-init : goal.loop-i-init
 unfolding task_in
 loop-i-init c =
-    let some = rw (c.find-place.ensures, c.start.ensures, c.records_of-records.ensures) at c.if-is_none.ensures in
-    (rw c.records_of-records.ensures, rw (accepted_by-places, some, sub-zero, c.records_of-records.ensures))
+    let place = rw (c.start.ensures, c.records_of-records.ensures) at c.find-place.ensures in
+    let some : is_some c.find-place.result ≡ true = cc in
+    (rw c.records_of-records.ensures, rw (accepted_by-places, ← place, some, sub-zero, c.records_of-records.ensures))
 
 pub record_holds-requires : goal.record_holds-requires
 record_holds-requires c = record {

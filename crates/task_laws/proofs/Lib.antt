@@ -4,6 +4,7 @@ pub mod SeveralTests
 pub mod RefusalNumbers
 pub mod RegisterBits
 pub mod Arrays
+pub mod RestOfFile
 pub mod RunsAndHalts
 pub mod Checks
 pub mod Models

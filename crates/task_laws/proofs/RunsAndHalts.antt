@@ -9,10 +9,10 @@ use native.Mathlib.Decide.{dec_lt}
 use native.Mathlib.Omega.{arith}
 use lib.ListN.{length, take, drop}
 use lib.Dec.{eqb}
-use borrow.Author.Tests.{eqb-true, lt-ltb, le-ltb}
+use borrow.Author.Tests.{eqb-true}
 use Rattle.task.specs.Records.{Record, header, state, edge, pair, history, end, encode, Body, of-header, of-state, of-edge, of_pair, of-history, of_end}
 use Rattle.task.specs.TaskFile
-use Rattle.task.specs.TaskFile.{◌>>=◌, record_kind, body_length, body_of, step, at_start, at_end, read_rest, read_task}
+use Rattle.task.specs.TaskFile.{◌>>=◌, record_kind, body_length, step, at_start, at_end, read_rest, read_task}
 use Rattle.task.specs.declared.Kind.{Kind}
 use Rattle.task.specs.declared.Kind.TheVariants.{Header, State, Edge, Pair, History, End}
 use Rattle.task.specs.declared.Refusal.{Refusal}
@@ -22,6 +22,8 @@ use Rattle.task.specs.declared.Stage.{Stage}
 use Rattle.task.specs.declared.Stage.TheVariants.{Start, States, Edges, Pairs, Sized, Ended}
 use Rattle.task.specs.declared.Progress.{Progress}
 use Rattle.fra_laws.proofs.Tests.{clash}
+use Rattle.task_laws.proofs.RestOfFile
+use Rattle.task_laws.proofs.RestOfFile.{ReadTo, begins, no_kind, rest-unknown, rest-cut, rest-stepped, over, turned_back, goes_on}
 
 -- ── One record ──
 
@@ -117,13 +119,11 @@ only-unknown b r e = at (eqb b 1) (eqb b 2) (eqb b 3) (eqb b 4) (eqb b 5) (eqb b
 
 -- a byte is of no kind exactly if it begins no record
 pub unknown-kind : (b : ℕ) → (record_kind b ≡ Err UnknownKind) ↔ ((n : ℕ) → Body b n → ⊥)
-unknown-kind b = (λ e n body. let known = (body-kind body).1 in clash (cc), λ h. at (record_kind b) refl h)
-  where
-    at : (o : Result Kind Refusal) → record_kind b ≡ o → ((n : ℕ) → Body b n → ⊥) → record_kind b ≡ Err UnknownKind
-    at (Err r) e h =
-        let only = only-unknown b r e in
-        cc
-    at (Ok k) e h = absurd (h (body_length k) (kind-body b k e))
+unknown-kind b = (
+  λ e n body. let known = (body-kind body).1 in clash (cc),
+  λ h. no_kind b (λ e. h 3 (rw e of-header)) (λ e. h 3 (rw e of-state)) (λ e. h 5 (rw e of-edge)) (λ e. h 2 (rw e of_pair))
+      (λ e. h 1 (rw e of-history)) (λ e. h 0 (rw e of_end)),
+)
 
 -- what stands next in a file
 data Next : List ℕ → Type 0 where
@@ -193,14 +193,13 @@ pub data Halt (p : Progress) : List ℕ → Result Task Refusal → Type 0 where
 
 read_record : (n : ℕ) (p : Progress) (x : Record) (rest : List ℕ)
     → read_rest (suc n) p (encode x ++ rest) ≡ (step_of x p >>= (λ after. read_rest n after rest))
-unfolding read_rest encode body_of step
-read_record n p (header r s q) rest = rw (le-ltb (length (r ∷ s ∷ q ∷ rest)) 3 (omega arith), read_rest)
-read_record n p (state m set mark) rest = rw (le-ltb (length (m ∷ set ∷ mark ∷ rest)) 3 (omega arith), read_rest)
-read_record n p (edge from tag kind i to) rest =
-    rw (le-ltb (length (from ∷ tag ∷ kind ∷ i ∷ to ∷ rest)) 5 (omega arith), read_rest)
-read_record n p (pair a b) rest = rw (le-ltb (length (a ∷ b ∷ rest)) 2 (omega arith), read_rest)
-read_record n p (history m) rest = rw (le-ltb (length (m ∷ rest)) 1 (omega arith), read_rest)
-read_record n p end rest = rw (le-ltb (length rest) 0 (omega arith), read_rest)
+unfolding encode step
+read_record n p (header r s q) rest = rest-stepped n p 1 (r ∷ s ∷ q ∷ rest) refl (omega arith)
+read_record n p (state m set mark) rest = rest-stepped n p 2 (m ∷ set ∷ mark ∷ rest) refl (omega arith)
+read_record n p (edge from tag kind i to) rest = rest-stepped n p 3 (from ∷ tag ∷ kind ∷ i ∷ to ∷ rest) refl (omega arith)
+read_record n p (pair a b) rest = rest-stepped n p 4 (a ∷ b ∷ rest) refl (omega arith)
+read_record n p (history m) rest = rest-stepped n p 5 (m ∷ rest) refl (omega arith)
+read_record n p end rest = rest-stepped n p 15 rest refl (omega arith)
 
 -- the end record was read, or the file's end is refused
 at-end : (stage : Stage) (t : Task) → (stage ≡ Ended) ⊎ ((stage ≡ Ended → ⊥) × (at_end stage t ≡ Err CutShort))
@@ -214,14 +213,12 @@ at-end Ended t = inl refl
 
 -- a halt is what the reader gives there
 halt_read : (n : ℕ) (p : Progress) {l : List ℕ} {r : Result Task Refusal} → Halt p l r → length l < n → read_rest n p l ≡ r
-unfolding read_rest at_end body_of
+unfolding read_rest at_end
 halt_read zero p h b = absurd (omega arith)
 halt_read (suc n) p (ended e) b = rw e
-halt_read (suc n) p (unended d) b =
-    ⊎_elim (λ (e : p.stage ≡ Ended). absurd (d e))
-    (λ (h : (p.stage ≡ Ended → ⊥) × (at_end p.stage p.task ≡ Err CutShort)). h.1) (at-end p.stage p.task)
-halt_read (suc n) p (unknown c l e) b = rw (e, read_rest)
-halt_read (suc n) p (cut c l k e d) b = rw (e, lt-ltb (length l) (body_length k) d, read_rest)
+halt_read (suc n) p (unended d) b = RestOfFile.unended p.stage p.task d
+halt_read (suc n) p (unknown c l e) b = rest-unknown n p c l e
+halt_read (suc n) p (cut c l k e d) b = rest-cut n p c l e d
 halt_read (suc n) p (broken x rest r e) b = read_record n p x rest ∙ rw e
 
 -- a record takes at least its kind byte
@@ -234,15 +231,22 @@ record_shortens (pair a b) rest = omega arith
 record_shortens (history n) rest = omega arith
 record_shortens end rest = omega arith
 
+-- what is left after a record
+read_on : {file rest : List ℕ} {p q : Progress} (x : Record) → ReadTo file p (encode x ++ rest) → step_of x p ≡ Ok q → ReadTo file q rest
+unfolding encode step
+read_on (header r s q) t e = goes_on t refl (omega arith) e
+read_on (state m set mark) t e = goes_on t refl (omega arith) e
+read_on (edge from tag kind i to) t e = goes_on t refl (omega arith) e
+read_on (pair a b) t e = goes_on t refl (omega arith) e
+read_on (history m) t e = goes_on t refl (omega arith) e
+read_on end t e = goes_on t refl (omega arith) e
+
+pub read_to : {file rest : List ℕ} {p : Progress} → Run file p rest → ReadTo file p rest
+read_to {file} begin = begins file
+read_to (onward x run e) = read_on x (read_to run) e
+
 run_read : {file rest : List ℕ} {p : Progress} → Run file p rest → (n : ℕ) × (length rest < n) × (read_task file ≡ read_rest n p rest)
-unfolding read_task
-run_read {file} begin = (suc (length file), omega arith, refl)
-run_read {file} (onward {p = p} {q = q} {rest = rest} x run e) = let w = run_read run in after w.0 w.1 w.2
-  where
-    after : (n : ℕ) → length (encode x ++ rest) < n → read_task file ≡ read_rest n p (encode x ++ rest)
-        → (n : ℕ) × (length rest < n) × (read_task file ≡ read_rest n q rest)
-    after zero b h = absurd (omega arith)
-    after (suc n) b h = (n, omega (arith, record_shortens x rest), h ∙ read_record n p x rest ∙ rw e)
+run_read run = let t = read_to run in (suc t.spare, omega (arith, t.enough), t.left)
 
 -- ── The reader halts, and only once ──
 
@@ -300,24 +304,17 @@ read_halt file {t} e = let h = halts file in at h.run h.halt e
 -- a kind byte that is none
 pub unknown_read : {file l : List ℕ} {p : Progress} {b : ℕ} {r : Refusal} → Run file p (b ∷ l) → record_kind b ≡ Err r
     → read_task file ≡ Err r
-unknown_read {l = l} {b = b} {r = r} run e =
-    let only = only-unknown b r e in
-    rw only (halt_decides run (unknown b l (rw only at e)))
+unknown_read run e = RestOfFile.unknown (read_to run) e
 
 -- a body that the file ends in
 pub cut_read : {file l : List ℕ} {p : Progress} {b : ℕ} {k : Kind} → Run file p (b ∷ l) → record_kind b ≡ Ok k
     → length l < body_length k
     → read_task file ≡ Err CutShort
-cut_read {l = l} {b = b} {k = k} run known h = halt_decides run (cut b l k known h)
+cut_read run known h = RestOfFile.cut (read_to run) known h
 
 -- the file's end
 pub end_read : {file : List ℕ} {p : Progress} → Run file p [] → read_task file ≡ at_end p.stage p.task
-unfolding read_rest
-end_read {p = p} run = let w = run_read run in by w.0 w.1 w.2
-  where
-    by : (n : ℕ) → 0 < n → {o : Result Task Refusal} → o ≡ read_rest n p [] → o ≡ at_end p.stage p.task
-    by zero h e = absurd (omega arith)
-    by (suc n) h e = e
+end_read run = over (read_to run)
 
 -- a whole record
 module _ {file l : List ℕ} {p : Progress} {b : ℕ} {k : Kind} (run : Run file p (b ∷ l)) (known : record_kind b ≡ Ok k)
@@ -329,6 +326,4 @@ module _ {file l : List ℕ} {p : Progress} {b : ℕ} {k : Kind} (run : Run file
   record-taken e = let w = record_whole k l fits in onward w.0 whole-run (w.2 p ∙ e)
 
   pub record_refused : {r : Refusal} → step k p (take (body_length k) l) ≡ Err r → read_task file ≡ Err r
-  record_refused {r} e =
-      let w = record_whole k l fits in
-      halt_decides whole-run (broken w.0 (drop (body_length k) l) r (w.2 p ∙ e))
+  record_refused e = turned_back (read_to run) known fits e

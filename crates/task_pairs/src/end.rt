@@ -15,13 +15,14 @@ fn step_of(p: Progress) -> Result<Progress, Refusal>
     })
 }
 
-// It stands after the right model, the pairs and the history's size.
+// It stands after the right model, the pairs and the history's size. Two arms refuse, so that an edit can change one.
 #[tactic(auto, unfolding(task::specs::TaskFile::end))]
 pub fn step(p: Progress) -> Result<Progress, Refusal>
     ensures { result ≡ end p.stage p }
 {
     match p.stage {
         Stage::Edges(Side::Right) | Stage::Pairs | Stage::Sized => step_of(p),
-        _ => Err(Refusal::Misplaced),
+        Stage::Edges(Side::Left) => Err(Refusal::Misplaced),
+        Stage::Start | Stage::States(_, _) | Stage::Ended => Err(Refusal::Misplaced),
     }
 }

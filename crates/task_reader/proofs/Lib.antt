@@ -1,2 +1,3 @@
--- What a turn of the reader's loop comes to.
+-- Which state is due stays known, and what a turn of the reader's loop comes to.
+pub mod StateDueKept
 pub mod Steps
